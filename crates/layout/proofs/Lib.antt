@@ -1,0 +1,9 @@
+-- Laws about the layout.
+pub mod Entries
+pub mod Headed
+pub mod Frame
+pub mod Response
+pub mod Said
+pub mod Written
+pub mod Limits
+pub mod RoundTrip

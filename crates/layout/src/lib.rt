@@ -1,0 +1,93 @@
+// The types of 01's packet layout. The layout itself is in specs/: what a message is, how it is encoded and decoded.
+ghost use mathlib.Core.Path.{_≡_};
+ghost use Rattle.layout.specs.Types.{typeNumber, typeOf, resultOf, signerKind, rootLength};
+
+// A signer's number and a key's number are both u32; no lookup takes the other kind.
+pub struct SignerId(pub u32);
+
+pub struct KeyId(pub u32);
+
+// net.rs: SignatureType. The root of TaprootRoot lies beside it.
+pub enum SignatureType {
+    Frost,
+    Schnorr,
+    Taproot,
+    TaprootRoot,
+}
+
+// state_machine/mod.rs: the results of a finished signing round (OperationResult), without the signature that the host keeps.
+pub enum ResultKind {
+    Sign,
+    SignSchnorr,
+    SignTaproot,
+}
+
+// The three numbers of a signing round.
+pub struct Ids {
+    pub dkg_id: u64,
+    pub sign_id: u64,
+    pub sign_iter_id: u64,
+}
+
+// The first 32 bytes of a packet.
+pub struct Header {
+    pub kind: u8,
+    pub signature_type: u8,
+    pub pairs: u16,
+    pub signer_id: u32,
+    pub ids: Ids,
+}
+
+// The number of a type in byte 1.
+pub fn type_number(t: SignatureType) -> u8
+    ensures { λ r. ⌜ r ≡ typeNumber t ⌝ }
+{
+    match t {
+        SignatureType::Frost => 0,
+        SignatureType::Schnorr => 1,
+        SignatureType::Taproot => 2,
+        SignatureType::TaprootRoot => 3,
+    }
+}
+
+// The type that a number at most 3 stands for.
+pub fn signature_type(n: u8) -> SignatureType
+    ensures { λ r. ⌜ r ≡ typeOf n ⌝ }
+{
+    if n == 0 {
+        return SignatureType::Frost;
+    }
+    if n == 1 {
+        return SignatureType::Schnorr;
+    }
+    if n == 2 {
+        return SignatureType::Taproot;
+    }
+    SignatureType::TaprootRoot
+}
+
+// The bytes of a root: 32 for type 3, else none.
+pub fn root_length(n: u8) -> usize
+    ensures { λ r. ⌜ r ≡ rootLength n ⌝ }
+{
+    if n == 3 { 32 } else { 0 }
+}
+
+// What a finished round of this type gives.
+pub fn result_kind(t: SignatureType) -> ResultKind
+    ensures { λ r. ⌜ r ≡ resultOf t ⌝ }
+{
+    match t {
+        SignatureType::Frost => ResultKind::Sign,
+        SignatureType::Schnorr => ResultKind::SignSchnorr,
+        SignatureType::Taproot => ResultKind::SignTaproot,
+        SignatureType::TaprootRoot => ResultKind::SignTaproot,
+    }
+}
+
+// net.rs, Packet::verify: whether a signer's key tests this kind, or the coordinator's.
+pub fn is_signer_kind(kind: u8) -> bool
+    ensures { λ r. ⌜ r ≡ signerKind kind ⌝ }
+{
+    kind % 2 == 0
+}

@@ -1,0 +1,91 @@
+-- The loop keeps what is still to be compared.
+-- Assumes nothing.
+use Rattle.wire.proofs.same.Statement.{statement}
+use Rattle.wire.proofs.same.Tie as tie
+use Prim.Native.Nat.{ℕ, suc, zero, _+_, _-_, _≤_, _<_}
+use mathlib.Core.Path.{_≡_, refl, sym, _∙_, ap}
+use mathlib.Core.Bool.{Bool, true, false, _&&_}
+use mathlib.Core.List.{List, [], _∷_}
+use native.Mathlib.Omega.{arith}
+use native.Mathlib.Numerals.{add-one}
+use borrow.Author.Needs.{needs}
+use borrow.Author.Tests.{eq-eqb, ne-eqb}
+use lib.Dec.{eqb}
+use lib.ListN.{length, getD, drop, drop-of-length-le}
+use lib.Seq.{drop-cons}
+use denote.Ref.{now}
+use Rattle.wire.specs.Bytes.{sameBytes}
+
+-- one byte on each side
+step : (a b : List ℕ) (i : ℕ) → i < length a → length a ≡ length b → sameBytes (drop i a) (drop i b) ≡ (eqb (getD a i 0) (getD b i 0) && sameBytes (drop (suc i) a) (drop (suc i) b))
+unfolding sameBytes
+step a b i ha e = rw (drop-cons a i 0 ha, drop-cons b i 0 (omega arith))
+
+-- lists of other lengths differ
+longer : (a b : List ℕ) → (length a ≡ length b → ⊥) → false ≡ sameBytes a b
+unfolding sameBytes
+longer [] [] h = absurd (h refl)
+longer [] (y ∷ ys) h = refl
+longer (x ∷ xs) [] h = refl
+longer (x ∷ xs) (y ∷ ys) h = rw (← longer xs ys (λ e. h (ap suc e))) (and-false (eqb x y))
+  where
+    and-false : (t : Bool) → false ≡ (t && false)
+    and-false true = refl
+    and-false false = refl
+
+-- two lists have come to their ends
+ended : (a b : List ℕ) (i : ℕ) → length a ≤ i → length a ≡ length b → true ≡ sameBytes (drop i a) (drop i b)
+unfolding sameBytes
+ended a b i h e = rw (drop-of-length-le a h, drop-of-length-le b {i = i} (omega arith))
+
+abbrev Inv-loop : tie.InvT-loop
+Inv-loop a b i₀ i = (i ≤ length a) × (length a ≡ length b) × (sameBytes (drop i a) (drop i b) ≡ sameBytes a b)
+
+abbrev μ-loop : tie.MeasureT-loop
+μ-loop a b i₀ i = length a - i
+
+returns : tie.Need-returns Inv-loop μ-loop
+returns c = longer _ _ (c .if1 .taken)
+
+loop-holds : tie.Need-loop-holds Inv-loop μ-loop
+loop-holds c = (omega arith, c .if1 .left, refl)
+
+shared-slice-read-if2 : tie.Need-shared-slice-read-if2 Inv-loop μ-loop
+shared-slice-read-if2 c = search needs
+
+shared-slice-read-if2-2 : tie.Need-shared-slice-read-if2-2 Inv-loop μ-loop
+shared-slice-read-if2-2 c = search needs
+
+returns-2 : tie.Need-returns-2 Inv-loop μ-loop
+returns-2 c = let v = c .before .before .before .before .loop in let a = c .before .before .before .before .before .before .args in
+    sym (rw (ne-eqb _ _ (c .if2 .taken)) at (step (now (a .a)) (now (a .b)) (v .i) (c .before .before .before .loop-test .taken) (v .inv .1))) ∙ v .inv .2
+
+add-i : tie.Need-add-i Inv-loop μ-loop
+add-i c = search needs
+
+loop-less : tie.Need-loop-less Inv-loop μ-loop
+loop-less c = omega arith
+
+loop-again : tie.Need-loop-again Inv-loop μ-loop
+loop-again c = let v = c .before .before .before .before .loop in let a = c .before .before .before .before .before .before .args in
+    (omega arith, v .inv .1, rw add-one (sym (rw (eq-eqb _ _ (c .if2 .left)) at (step (now (a .a)) (now (a .b)) (v .i) (c .before .before .before .loop-test .taken) (v .inv .1))) ∙ v .inv .2))
+
+returns-3 : tie.Need-returns-3 Inv-loop μ-loop
+returns-3 c = let v = c .before .loop in let a = c .before .before .before .args in
+    ended (now (a .a)) (now (a .b)) (v .i) (c .loop-test .left) (v .inv .1) ∙ v .inv .2
+
+pub same-spec : {M : Type 1} → statement M
+same-spec =
+    tie.close
+    (tie.spec
+    Inv-loop
+    μ-loop
+    returns
+    loop-holds
+    shared-slice-read-if2
+    shared-slice-read-if2-2
+    returns-2
+    add-i
+    loop-less
+    loop-again
+    returns-3)
