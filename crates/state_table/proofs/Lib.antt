@@ -1,0 +1,3 @@
+-- Laws about the table of states.
+pub mod Lookup
+pub mod Table

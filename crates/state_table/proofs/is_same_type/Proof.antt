@@ -1,0 +1,54 @@
+-- By the two tests; the roots are compared as bytes.
+-- Assumes nothing.
+use borrow.Author.Needs.{needs}
+use Rattle.state_table.proofs.is_same_type.Statement.{statement}
+use Rattle.state_table.proofs.is_same_type.Tie as tie
+use mathlib.Core.Path.{_≡_, refl, sym, _∙_, ap}
+use mathlib.Core.Bool.{_&&_, cond, true}
+use lib.Dec.{eqb}
+use borrow.Author.Tests.{eq-eqb, ne-eqb}
+use Rattle.wire.specs.Bytes.{sameBytes}
+use Rattle.layout.specs.Types.{typeNumber}
+use Rattle.state_table.specs.States.{sameType}
+
+type-number-requires : tie.Need-type-number-requires
+type-number-requires c κs = search needs
+
+type-number-requires-2 : tie.Need-type-number-requires-2
+type-number-requires-2 c κs = search needs
+
+returns : tie.Need-returns
+unfolding sameType
+returns c = let a = c .before .before .before .args in rw (ne-eqb (typeNumber (a .a)) (typeNumber (a .b)) (λ e. c .if1 .taken (c .before .before .type-number .ensures ∙ e ∙ sym (c .before .type-number2 .ensures))))
+
+returns-2 : tie.Need-returns-2
+unfolding sameType
+returns-2 c = let a = c .before .before .before .before .args in
+    rw (eq-eqb (typeNumber (a .a)) (typeNumber (a .b)) (sym (c .before .before .before .type-number .ensures) ∙ c .before .if1 .left ∙ c .before .before .type-number2 .ensures), ne-eqb (typeNumber (a .a)) 3 (λ e. c .if2 .taken (c .before .before .before .type-number .ensures ∙ e)))
+
+slice-aggregate-same : tie.Need-slice-aggregate-same
+slice-aggregate-same c = search needs
+
+slice-aggregate-same-2 : tie.Need-slice-aggregate-same-2
+slice-aggregate-same-2 c = search needs
+
+same-requires : tie.Need-same-requires
+same-requires c κs = search needs
+
+returns-3 : tie.Need-returns-3
+unfolding sameType
+returns-3 c = let a = c .before .before .before .before .before .before .before .args in
+    rw (eq-eqb (typeNumber (a .a)) (typeNumber (a .b)) (sym (c .before .before .before .before .before .before .type-number .ensures) ∙ c .before .before .before .before .if1 .left ∙ c .before .before .before .before .before .type-number2 .ensures), eq-eqb (typeNumber (a .a)) 3 (sym (c .before .before .before .before .before .before .type-number .ensures) ∙ c .before .before .before .if2 .left)) (c .same .ensures)
+
+pub is-same-type-spec : {M : Type 1} → statement M
+is-same-type-spec =
+    tie.close
+    (tie.spec
+    type-number-requires
+    type-number-requires-2
+    returns
+    returns-2
+    slice-aggregate-same
+    slice-aggregate-same-2
+    same-requires
+    returns-3)

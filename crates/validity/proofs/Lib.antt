@@ -1,0 +1,2 @@
+-- Laws about key lists.
+pub mod Places
