@@ -1,0 +1,99 @@
+// One case, by its letter: R a packet read, V nonces tested, K key lists compared, M a move asked, and the writers (writes.rt).
+use crate::lists;
+use crate::print;
+use crate::writes;
+use layout::Header;
+use layout::Ids;
+use state_table::State;
+use validity::keys::KeyIds;
+
+fn ids(ids: Ids) {
+    print::field(b", ids ", ids.dkg_id);
+    print::field(b" ", ids.sign_id);
+    print::field(b" ", ids.sign_iter_id);
+}
+
+fn header(h: Header) {
+    print::field(b"kind ", h.kind as u64);
+    print::field(b", type ", h.signature_type as u64);
+    print::field(b", signer ", h.signer_id as u64);
+    ids(h.ids);
+    print::field(b", pairs ", h.pairs as u64);
+}
+
+// What the reader says of a packet.
+pub fn read(s: &[u8]) {
+    match packet::reader::read(s) {
+        packet::reader::Reading::Packet(h) => {
+            header(h);
+            lists::all(s, h.kind, h.pairs as usize);
+        }
+        packet::reader::Reading::Refused(n) => {
+            print::field(b"refused ", n as u64);
+        }
+    }
+}
+
+fn yes_or_no(b: bool) {
+    print::either(b, b"yes", b"no");
+}
+
+// A list of key ids and the set after it: byte 0 says how many bytes the list has.
+fn list_in(s: &[u8]) -> KeyIds {
+    validity::keys::key_list(wire::part(s, 1, wire::byte(s, 0) as usize))
+}
+
+fn set_in(s: &[u8]) -> KeyIds {
+    let at = 1 + (wire::byte(s, 0) as usize);
+    validity::keys::key_list(wire::part(s, at, s.len()))
+}
+
+fn compare(s: &[u8]) {
+    yes_or_no(validity::keys::compare(list_in(s), set_in(s)).same);
+}
+
+// A state: its number and its type; a third byte is the last of its root.
+fn state_in(s: &[u8]) -> State {
+    let t = layout::signature_type(wire::byte(s, 1));
+    match wire::byte(s, 0) {
+        0 => State::Idle,
+        1 => State::DkgPublicDistribute,
+        2 => State::DkgPublicGather,
+        3 => State::DkgPublicSharesDoneDistribute,
+        4 => State::DkgPublicSharesDoneGather,
+        5 => State::DkgPrivateDistribute,
+        6 => State::DkgPrivateGather,
+        7 => State::DkgPrivateSharesDoneDistribute,
+        8 => State::DkgPrivateSharesDoneGather,
+        9 => State::DkgEndDistribute,
+        10 => State::DkgEndGather,
+        11 => State::NonceRequest(t),
+        12 => State::NonceGather(t),
+        13 => State::SigShareRequest(t),
+        _ => State::SigShareGather(t),
+    }
+}
+
+fn root_in(s: &[u8]) -> [u8; 32] {
+    let mut root = [0u8; 32];
+    root[31] = wire::byte(s, 2);
+    root
+}
+
+// A move: the previous state's three bytes, then the next state's.
+fn moves(s: &[u8]) {
+    let to = wire::part(s, 3, 3);
+    yes_or_no(state_table::can_move_to(state_in(s), root_in(s), state_in(to), root_in(to)));
+}
+
+// The case that a letter names.
+pub fn run(letter: u8, args: &[u8; 32768], n: usize, store: &[u8; 52224]) {
+    let s = wire::part(args, 0, n);
+    match letter {
+        b'R' => read(s),
+        b'V' => yes_or_no(validity::nonces::are_valid(s)),
+        b'K' => compare(s),
+        b'M' => moves(s),
+        _ => writes::run(letter, s, store),
+    }
+}

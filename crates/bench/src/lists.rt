@@ -1,0 +1,88 @@
+// Lists of ids, printed, and a packet's lists.
+use crate::lines;
+use crate::print;
+
+fn id(n: u32) {
+    print::field(b" ", n as u64);
+}
+
+// The numbers of four bytes each in s.
+fn each_id(s: &[u8]) {
+    let mut i: usize = 0;
+    while i < s.len() / 4 {
+        id(wire::u32_at(s, 4 * i));
+        i += 1;
+    }
+}
+
+fn ids(s: &[u8]) {
+    print::text(b", key ids {");
+    each_id(s);
+    print::text(b" }");
+}
+
+// A kind 2 packet's lists.
+fn response(s: &[u8]) {
+    print::field(b"; message ", packet::parts::message(s).len() as u64);
+    ids(packet::parts::key_ids(s));
+    let nonces = packet::parts::nonces(s);
+    print::field(b", nonces ", (nonces.len() / 66) as u64);
+    print::either(
+        validity::nonces::are_valid(nonces),
+        b" valid",
+        b" not valid",
+    );
+}
+
+// A response of a kind 3 packet.
+fn nested(s: &[u8]) {
+    let h = packet::frame::header(s);
+    print::field(b"\n  response of ", h.signer_id as u64);
+    print::field(b", sign id ", h.ids.sign_id);
+    response(s);
+}
+
+// A share of a kind 4 packet.
+fn share(s: &[u8]) {
+    print::field(b"\n  share ", packet::parts::share_id(s) as u64);
+    print::text(b", z_i ");
+    print::sum(packet::parts::share_z_i(s));
+    ids(packet::parts::share_key_ids(s));
+}
+
+// Response or share i, by the packet's kind.
+fn item(kind: u8, s: &[u8], i: usize) {
+    let i = (i % 256) as u8;
+    if kind == 3 {
+        nested(packet::parts::nested(s, i));
+    } else {
+        share(packet::parts::share(s, i));
+    }
+}
+
+fn each_item(kind: u8, s: &[u8], count: usize) {
+    let mut i: usize = 0;
+    while i < count {
+        item(kind, s, i);
+        i += 1;
+    }
+}
+
+fn request(s: &[u8]) {
+    print::field(b"; message ", packet::parts::message(s).len() as u64);
+    print::field(b", root ", packet::parts::root(s).len() as u64);
+}
+
+// The lists of a packet of that kind.
+pub fn all(s: &[u8], kind: u8, pairs: usize) {
+    match kind {
+        1 => request(s),
+        2 => response(s),
+        3 => {
+            request(s);
+            each_item(kind, s, lines::less(pairs, 2));
+        }
+        4 => each_item(kind, s, pairs),
+        _ => {}
+    }
+}

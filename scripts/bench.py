@@ -1,0 +1,395 @@
+#!/usr/bin/env python3
+"""Writes crates/bench/stdin and crates/bench/stdout: the cases of the host's test program for Bench, and what it must print.
+
+The model below is written from document 01 ("Packet layout", questions 7 to 9, "The table of states") and shares no code with the
+crates. Run from the repository's root; both files are committed, so nothing needs this script to pass.
+"""
+G = bytes.fromhex("0279BE667EF9DCBBAC55A06295CE870B07029BFCDB2DCE28D959F2815B16F81798")
+STORE = bytes((7 * i + i // 251) % 256 for i in range(52224))
+
+
+def le(n, x):
+    return x.to_bytes(n, "little")
+
+
+def packet(kind, parts, type_=0, signer=0, ids=(0, 0, 0), pairs=None, head=None):
+    at = 32 + 8 * len(parts)
+    table = b""
+    for p in parts:
+        table += le(4, at) + le(4, len(p))
+        at += len(p)
+    header = le(1, kind) + le(1, type_) + le(2, len(parts) if pairs is None else pairs) + le(4, signer) + b"".join(le(8, i) for i in ids)
+    return header + table + b"".join(parts)
+
+
+def response(signer=1, ids=(1, 2, 3), message=b"hello", keys=(2, 3), nonces=None):
+    nonces = [bytes([2] + [i + 1] * 32) + bytes([3] + [i + 1] * 32) for i in range(len(keys))] if nonces is None else nonces
+    return packet(2, [message, b"".join(le(4, k) for k in keys), b"".join(nonces)], 0, signer, ids)
+
+
+def share(i, keys, z=None):
+    return le(4, i) + (bytes([i % 256] * 32) if z is None else z) + b"".join(le(4, k) for k in keys)
+
+
+# --- the reader
+
+def num(s, at, n):
+    return int.from_bytes(s[at:at + n], "little")
+
+
+def fields(s):
+    return dict(kind=num(s, 0, 1), type=num(s, 1, 1), pairs=num(s, 2, 2), signer=num(s, 4, 4), ids=(num(s, 8, 8), num(s, 16, 8), num(s, 24, 8)))
+
+
+LACKS = {1: ["signer"], 2: ["type"], 3: ["signer"], 4: ["type"], 5: ["signer", "type", "sign"], 6: ["type", "sign"], 7: ["signer", "type", "sign"]}
+
+
+def laid_out(s, nested=False):
+    """The parts, or None."""
+    if len(s) < 32:
+        return None
+    h = fields(s)
+    if h["kind"] not in LACKS or (nested and h["kind"] != 2):
+        return None
+    for f in LACKS[h["kind"]]:
+        if (f == "sign" and (h["ids"][1] or h["ids"][2])) or (f != "sign" and h[f]):
+            return None
+    n = h["pairs"]
+    if h["type"] > 3 or not {1: n == 2, 2: n == 3, 3: n >= 2, 4: True}.get(h["kind"], n == 0) or len(s) < 32 + 8 * n:
+        return None
+    at, parts = 32 + 8 * n, []
+    for i in range(n):
+        off, size = num(s, 32 + 8 * i, 4), num(s, 36 + 8 * i, 4)
+        if off != at or at + size > len(s):
+            return None
+        parts.append(s[at:at + size])
+        at += size
+    if at != len(s):
+        return None
+    k = h["kind"]
+    if k in (1, 3) and len(parts[1]) != (32 if h["type"] == 3 else 0):
+        return None
+    if k == 2 and (len(parts[1]) % 4 or len(parts[2]) % 66):
+        return None
+    if k == 3 and any(laid_out(p, True) is None for p in parts[2:]):
+        return None
+    if k == 4 and any(len(p) < 36 or (len(p) - 36) % 4 for p in parts):
+        return None
+    return parts
+
+
+def within(s, parts):
+    k = fields(s)["kind"]
+    if k in (1, 3) and len(parts[0]) > 256:
+        return False
+    if k == 2:
+        return len(parts[0]) <= 256 and len(parts[1]) <= 64 and len(parts[2]) <= 16 * 66
+    if k == 3:
+        return len(parts) <= 12 and all(within(p, laid_out(p, True)) for p in parts[2:])
+    if k == 4:
+        return len(parts) <= 16 and sum((len(p) - 36) // 4 for p in parts) <= 16
+    return True
+
+
+def ids_text(s):
+    return " {" + "".join(" %d" % num(s, i, 4) for i in range(0, len(s) - 3, 4)) + " }"
+
+
+def valid(nonces):
+    whole = len(nonces) // 66 * 66
+    return all(nonces[i:i + 33] not in (bytes(33), G) for i in range(0, whole, 33))
+
+
+def response_text(parts):
+    return "; message %d, key ids%s, nonces %d %s" % (len(parts[0]), ids_text(parts[1]), len(parts[2]) // 66, "valid" if valid(parts[2]) else "not valid")
+
+
+def checksum(s):
+    h = 0
+    for b in s:
+        h = (h * 31 + b) % 2 ** 32
+    return "%08x" % h
+
+
+def read(s):
+    parts = laid_out(s)
+    if parts is None:
+        return "refused 8"
+    if not within(s, parts):
+        return "refused 9"
+    h = fields(s)
+    t = "kind %d, type %d, signer %d, ids %d %d %d, pairs %d" % (h["kind"], h["type"], h["signer"], *h["ids"], h["pairs"])
+    if h["kind"] in (1, 3):
+        t += "; message %d, root %d" % (len(parts[0]), len(parts[1]))
+    if h["kind"] == 2:
+        t += response_text(parts)
+    if h["kind"] == 3:
+        for p in parts[2:]:
+            g = fields(p)
+            t += "\n  response of %d, sign id %d%s" % (g["signer"], g["ids"][1], response_text(laid_out(p, True)))
+    if h["kind"] == 4:
+        for p in parts:
+            t += "\n  share %d, z_i %s, key ids%s" % (num(p, 0, 4), checksum(p[4:36]), ids_text(p[36:]))
+    return t
+
+
+# --- the script
+
+script, expected = [], []
+
+
+def tokens(s):
+    """Bytes as tokens; runs of one byte are written once."""
+    out, i = [], 0
+    while i < len(s):
+        j = i
+        while j < len(s) and s[j] == s[i]:
+            j += 1
+        out.append("%d*%02x" % (j - i, s[i]) if j - i > 3 else " ".join(["%02x" % s[i]] * (j - i)))
+        i = j
+    return " ".join(out)
+
+
+def case(letter, label, args, answer):
+    script.append("%s %s | %s" % (letter, label, args))
+    expected.append("%s: %s" % (label, answer))
+
+
+def r(label, s):
+    case("R", label, tokens(s), read(s))
+
+
+def wrote(data, lent, refusal):
+    after = data + bytes([0xaa] * (lent - len(data))) if refusal is None else bytes([0xaa] * lent)
+    if refusal is not None:
+        return "refused %d, %s" % (refusal, checksum(after))
+    return "%d bytes, %s%s" % (len(data), checksum(after), "\n  " + read(data) if data[0] < 8 else "")
+
+
+def asked(lent, fine):
+    return 7 if lent < 19232 else None if fine else 9
+
+
+def root(t):
+    return bytes([0x17] * 32) if t == 3 else b""
+
+
+def w_request(label, t, size, lent=19232):
+    data = packet(1, [STORE[:size], root(t)], t, 0, (1, 2, 3))
+    case("N", label, "%02x 2:%d 2:%d" % (t, lent, size), wrote(data, min(lent, 19240), asked(lent, size <= 256)))
+
+
+def place(i):
+    return 256 + 1120 * i
+
+
+def w_share_request(label, t, size, count, keys, nonces, lent=19232):
+    nested = [packet(2, [STORE[:size], STORE[place(i):place(i) + 4 * keys], STORE[place(i) + 64:place(i) + 64 + 66 * nonces]], 0, i, (1, 2 + i, 3)) for i in range(min(count, 10))]
+    data = packet(3, [STORE[:size], root(t)] + nested, t, 0, (1, 2, 3))
+    fine = size <= 256 and count <= 10 and (count == 0 or (keys <= 16 and nonces <= 16))
+    case("S", label, "%02x 2:%d 2:%d 2:%d 2:%d 2:%d" % (t, lent, size, count, keys, nonces), wrote(data, min(lent, 19240), asked(lent, fine)))
+
+
+def w_job(label, t, size, count, lists, shares, share_keys, lent=19232):
+    keys = b"".join(STORE[place(i):place(i) + 4 * lists] for i in range(min(count, 10)))
+    nonces = b"".join(STORE[place(i) + 64:place(i) + 64 + 66 * lists] for i in range(min(count, 10)))
+    parts = []
+    for i in range(min(count, 10)):
+        base = 45824 + 640 * i
+        for j in range(shares):
+            k = base + 576 + 4 * j * share_keys
+            parts.append(STORE[base + 36 * j:base + 36 * j + 36] + STORE[k:k + 4 * share_keys])
+    data = packet(32, [STORE[:size], root(t), keys, nonces] + parts, t, 0, (1, 2, 3))
+    fine = size <= 256 and count <= 10 and (count == 0 or (lists <= 16 and shares <= 16 and shares * share_keys <= 16))
+    case("J", label, "%02x 2:%d 2:%d 2:%d 2:%d 2:%d %02x" % (t, lent, size, count, lists, shares, share_keys), wrote(data, min(lent, 19240), asked(lent, fine)))
+
+
+def signer_ids(n):
+    return b"".join(le(4, 3 * i) for i in range(min(n, 10)))
+
+
+def w_timeout(label, waiters, malicious, lent=19232):
+    data = packet(33, [signer_ids(waiters), signer_ids(malicious)])
+    case("T", label, "00 2:%d 2:%d 2:%d" % (lent, waiters, malicious), wrote(data, min(lent, 19240), asked(lent, max(waiters, malicious) <= 10)))
+
+
+def w_insufficient(label, malicious, lent=19232):
+    case("I", label, "00 2:%d 2:%d" % (lent, malicious), wrote(packet(34, [signer_ids(malicious)]), min(lent, 19240), asked(lent, malicious <= 10)))
+
+
+def w_dkg(label, kind, dkg, signer=0, lent=19232):
+    data = packet(kind, [], 0, signer, (dkg, 0, 0))
+    case(str(kind), label, "00 2:%d 2:%d 2:%d" % (lent, dkg, signer), wrote(data, min(lent, 19240), asked(lent, True)))
+
+
+STATES = ["Idle", "DkgPublicDistribute", "DkgPublicGather", "DkgPublicSharesDoneDistribute", "DkgPublicSharesDoneGather", "DkgPrivateDistribute", "DkgPrivateGather", "DkgPrivateSharesDoneDistribute", "DkgPrivateSharesDoneGather", "DkgEndDistribute", "DkgEndGather", "NonceRequest", "NonceGather", "SigShareRequest", "SigShareGather"]
+
+
+def may_move(prev, ptype, proot, nxt, ntype, nroot):
+    """fire.rs, can_move_to, target by target."""
+    same = ptype == ntype and (ptype != 3 or proot == nroot)
+    is_ = lambda *names: prev in names
+    return {
+        "Idle": True,
+        "DkgPublicDistribute": is_("Idle"),
+        "DkgPublicGather": is_("DkgPublicDistribute", "DkgPublicGather"),
+        "DkgPublicSharesDoneDistribute": is_("DkgPublicGather"),
+        "DkgPublicSharesDoneGather": is_("DkgPublicSharesDoneDistribute", "DkgPublicSharesDoneGather"),
+        "DkgPrivateDistribute": is_("DkgPublicSharesDoneGather"),
+        "DkgPrivateGather": is_("DkgPrivateDistribute", "DkgPrivateGather"),
+        "DkgPrivateSharesDoneDistribute": is_("DkgPrivateGather"),
+        "DkgPrivateSharesDoneGather": is_("DkgPrivateSharesDoneDistribute", "DkgPrivateSharesDoneGather"),
+        "DkgEndDistribute": is_("DkgPrivateSharesDoneGather"),
+        "DkgEndGather": is_("DkgEndDistribute"),
+        "NonceRequest": is_("Idle", "DkgEndGather") or (is_("SigShareGather") and same),
+        "NonceGather": is_("NonceRequest", "NonceGather") and same,
+        "SigShareRequest": is_("NonceGather") and same,
+        "SigShareGather": is_("SigShareRequest", "SigShareGather") and same,
+    }[nxt]
+
+
+def move(prev, nxt, ptype=0, ntype=0, proot=0, nroot=0, label=None):
+    case("M", label or "%s to %s" % (prev, nxt), "%02x %02x %02x %02x %02x %02x" % (STATES.index(prev), ptype, proot, STATES.index(nxt), ntype, nroot), "yes" if may_move(prev, ptype, proot, nxt, ntype, nroot) else "no")
+
+
+def keys(label, list_, set_):
+    case("K", label, "%02x " % (4 * len(list_)) + " ".join("4:%d" % k for k in list_ + set_), "yes" if set(list_[:16]) == set(set_[:16]) else "no")
+
+
+def main():
+    hello = b"hello"
+    # every kind written and read back, the others read from bytes
+    for t in range(4):
+        w_request("nonce request of type %d" % t, t, 5)
+    w_share_request("share request, two responses", 3, 5, 2, 3, 2)
+    w_share_request("share request, none nested", 0, 0, 0, 0, 0)
+    w_job("job, two signers", 3, 5, 2, 3, 2, 1)
+    w_job("job, nobody", 0, 0, 0, 0, 0, 0)
+    w_timeout("nonce timeout", 2, 1)
+    w_insufficient("insufficient signers", 3)
+    w_dkg("DkgBegin", 5, 7)
+    w_dkg("key generation, a signer's", 6, 7, 4)
+    w_dkg("key generation, the coordinator's", 7, 7)
+    r("nonce response", response())
+    r("share response", packet(4, [share(1, [2]), share(2, [3, 4])], 0, 1, (1, 2, 3)))
+    r("share response, largest ids", packet(4, [share(2 ** 32 - 1, [2 ** 32 - 1])], 0, 2 ** 32 - 1, (2 ** 64 - 1,) * 3))
+    # what is taken
+    r("taken: an empty message", packet(1, [b"", b""]))
+    r("taken: kind 3 with no response", packet(3, [hello, b""], 0, 0, (1, 2, 3)))
+    r("taken: nested ids, messages and signers of their own, repeated", packet(3, [hello, b"", response(ids=(9, 8, 7), message=b"other"), response(ids=(9, 8, 7), message=b"other"), response(signer=5)], 1, 0, (1, 2, 3)))
+    r("taken: kind 4 with no share", packet(4, [], 0, 1, (1, 2, 3)))
+    r("taken: kind 4, a share of no key", packet(4, [share(1, [])], 0, 1, (1, 2, 3)))
+    r("taken: no key, no nonce", response(keys=()))
+    r("taken: more nonces than keys", response(keys=(2,), nonces=[bytes([2] * 66)] * 3))
+    # limits, at and one past
+    w_request("message of 256, written", 0, 256)
+    w_request("message of 257, written", 0, 257)
+    r("message of 256", packet(1, [bytes(256), b""]))
+    r("message of 257", packet(1, [bytes(257), b""]))
+    r("response's message of 256", response(message=bytes(256)))
+    r("response's message of 257", response(message=bytes(257)))
+    r("nested message of 256", packet(3, [hello, b"", response(message=bytes(256))]))
+    r("nested message of 257", packet(3, [hello, b"", response(message=bytes(257))]))
+    r("kind 3, message of 257", packet(3, [bytes(257), b""]))
+    w_share_request("share request, message of 256", 0, 256, 1, 1, 1)
+    w_share_request("share request, message of 257", 0, 257, 1, 1, 1)
+    for n in (16, 17):
+        r("%d key ids" % n, response(keys=tuple(range(n)), nonces=[]))
+        r("%d nonces" % n, response(keys=(1,), nonces=[bytes([2] * 66)] * n))
+        r("%d nested key ids" % n, packet(3, [hello, b"", response(keys=tuple(range(n)), nonces=[])]))
+        r("%d nested nonces" % n, packet(3, [hello, b"", response(keys=(1,), nonces=[bytes([2] * 66)] * n)]))
+        r("%d shares" % n, packet(4, [share(i, []) for i in range(n)]))
+        r("%d key ids over two shares" % n, packet(4, [share(1, list(range(8))), share(2, list(range(n - 8)))]))
+        w_share_request("share request, %d key ids" % n, 0, 5, 2, n, 1)
+        w_share_request("share request, %d nonces" % n, 0, 5, 2, 1, n)
+        w_job("job, lists of %d" % n, 0, 5, 2, n, 1, 1)
+        w_job("job, %d shares" % n, 0, 5, 2, 1, n, 1)
+    w_job("job, a share of 17 key ids", 0, 5, 2, 1, 1, 17)
+    for n in (10, 11):
+        r("%d nested responses" % n, packet(3, [hello, b""] + [response(signer=i, message=b"", keys=()) for i in range(n)]))
+        w_share_request("share request, %d responses" % n, 0, 5, n, 1, 1)
+        w_job("job, %d signers" % n, 0, 5, n, 1, 1, 1)
+        w_timeout("nonce timeout, %d waiters" % n, n, 1)
+        w_timeout("nonce timeout, %d malicious" % n, 1, n)
+        w_insufficient("insufficient signers, %d" % n, n)
+    w_share_request("largest share request", 3, 256, 10, 16, 16)
+    w_job("largest job: the whole answer buffer", 3, 256, 10, 16, 16, 1)
+    w_job("largest job, eight bytes more lent", 3, 256, 10, 16, 16, 1, 19240)
+    for n in (19232, 19231):
+        w_request("nonce request, buffer of %d" % n, 0, 5, n)
+        w_share_request("share request, buffer of %d" % n, 0, 5, 1, 1, 1, n)
+        w_job("job, buffer of %d" % n, 0, 5, 1, 1, 1, 1, n)
+        w_timeout("nonce timeout, buffer of %d" % n, 1, 1, n)
+        w_insufficient("insufficient signers, buffer of %d" % n, 1, n)
+        for k in (5, 6, 7):
+            w_dkg("kind %d, buffer of %d" % (k, n), k, 7, 0, n)
+    w_request("7 before 9", 0, 257, 0)
+    # damaged packets
+    r("nothing at all", b"")
+    r("31 bytes", packet(5, [], ids=(7, 0, 0))[:31])
+    r("33 bytes, no pairs", packet(5, [], ids=(7, 0, 0)) + b"\0")
+    for k in (0, 8, 32, 33, 34, 255):
+        r("kind %d" % k, packet(k, []))
+    good = {1: packet(1, [hello, b""], 0, 0, (1, 2, 3)), 2: response(), 3: packet(3, [hello, b"", response()], 0, 0, (1, 2, 3)), 4: packet(4, [share(1, [2])], 0, 1, (1, 2, 3)), 5: packet(5, [], ids=(7, 0, 0)), 6: packet(6, [], signer=4, ids=(7, 0, 0)), 7: packet(7, [], ids=(7, 0, 0))}
+    for k, s in good.items():
+        for name, at in (("type", 1), ("signer", 4), ("sign id", 16), ("iteration", 24)):
+            if s[at] == 0:
+                r("kind %d, %s 1" % (k, name), s[:at] + b"\1" + s[at + 1:])
+        r("kind %d, a pair less than named" % k, s[:2] + le(2, num(s, 2, 2) + 1) + s[4:])
+        r("kind %d, a pair more than named" % k, s[:2] + le(2, max(num(s, 2, 2) - 1, 0)) + s[4:])
+        r("kind %d, 65535 pairs" % k, s[:2] + le(2, 65535) + s[4:])
+    r("kind 1, three pairs", packet(1, [hello, b"", b""]))
+    r("kind 2, two pairs", packet(2, [hello, b""]))
+    r("kind 3, one pair", packet(3, [hello]))
+    r("kind 5, one pair", packet(5, [b""], ids=(7, 0, 0)))
+    r("type 4", packet(1, [hello, bytes(32)], 4))
+    r("type 3, root of 31 bytes", packet(1, [hello, bytes(31)], 3))
+    r("type 3, no root", packet(1, [hello, b""], 3))
+    r("type 2, root of 32 bytes", packet(1, [hello, bytes(32)], 2))
+    r("kind 3, type 3, root of 31 bytes", packet(3, [hello, bytes(31)], 3))
+    s = good[1]
+    r("first part one byte late", s[:32] + le(4, 49) + s[36:])
+    r("first part one byte early", s[:32] + le(4, 47) + s[36:])
+    r("a gap", s[:40] + le(4, 54) + s[44:])
+    r("an overlap", s[:40] + le(4, 52) + s[44:])
+    r("a part past the end", s[:36] + le(4, 6) + s[40:])
+    r("a part of 2^32 - 1 bytes", s[:36] + le(4, 2 ** 32 - 1) + s[40:])
+    r("the last part does not end the packet", s + b"\0")
+    r("a packet cut short", s[:-1])
+    r("key ids of 7 bytes", packet(2, [hello, bytes(7), b""]))
+    r("nonces of 65 bytes", packet(2, [hello, b"", bytes(65)]))
+    r("share of 35 bytes", packet(4, [bytes(35)]))
+    r("share's key ids of 3 bytes", packet(4, [bytes(39)]))
+    r("nested kind 1", packet(3, [hello, b"", good[1]]))
+    r("nested packet with a byte more", packet(3, [hello, b"", response() + b"\0"]))
+    r("nested packet of type 1", packet(3, [hello, b"", response()[:1] + b"\1" + response()[2:]]))
+    r("nested key ids of 7 bytes", packet(3, [hello, b"", packet(2, [hello, bytes(7), b""])]))
+    r("8 before 9: a malformed nested packet behind a message of 300", packet(3, [bytes(300), b"", response()[:-1]]))
+    # nonces and key lists
+    point = bytes([2] + [9] * 32)
+    for label, n in (("two good points", point + point), ("D the identity", bytes(33) + point), ("E the identity", point + bytes(33)), ("D the generator", G + point), ("E the generator", point + G), ("D with first byte 03, G otherwise", b"\3" + G[1:] + point), ("the second nonce bad", point * 3 + G), ("no nonce", b"")):
+        case("V", label, tokens(n), "yes" if valid(n) else "no")
+    keys("keys 3 2 3 against 2 3", [3, 2, 3], [2, 3])
+    keys("keys 2 against 2 3", [2], [2, 3])
+    keys("keys 2 3 4 against 2 3", [2, 3, 4], [2, 3])
+    keys("no key against none", [], [])
+    keys("no key against 1", [], [1])
+    keys("sixteen keys, reversed", list(range(16)), list(range(16))[::-1])
+    # every pair of states, the Rust's own walk (coordinator/mod.rs, coordinator_state_machine) among them
+    for prev in STATES:
+        for nxt in STATES:
+            move(prev, nxt)
+    for prev, nxt in (("SigShareGather", "NonceRequest"), ("NonceRequest", "NonceGather"), ("NonceGather", "SigShareRequest"), ("SigShareRequest", "SigShareGather"), ("Idle", "NonceRequest"), ("SigShareGather", "Idle")):
+        move(prev, nxt, 0, 1, label="%s of Frost to %s of Schnorr" % (prev, nxt))
+        move(prev, nxt, 2, 3, label="%s without a root to %s with one" % (prev, nxt))
+        move(prev, nxt, 3, 3, 1, 2, label="%s to %s of another root" % (prev, nxt))
+        move(prev, nxt, 3, 3, 1, 1, label="%s to %s of the same root" % (prev, nxt))
+        move(prev, nxt, 2, 2, 1, 2, label="%s to %s of type 2: the bytes beside are no root" % (prev, nxt))
+    text = "\n".join(script) + "\n"
+    assert len(text) <= 65536, len(text)
+    open("crates/bench/stdin", "w").write(text)
+    open("crates/bench/stdout", "w").write("\n".join(expected) + "\n")
+    print(len(script), "cases,", len(text), "bytes")
+
+
+main()
