@@ -1,0 +1,20 @@
+-- Theorems about the step definition.
+pub mod Cases
+pub mod StepCases
+pub mod Phases
+pub mod Outcomes
+pub mod WorkedRounds
+pub mod Refusals
+pub mod Malicious
+pub mod Waiters
+pub mod Watching
+pub mod WatchedStates
+pub mod WatchedCalls
+pub mod Silence
+pub mod Leaves
+pub mod Gathering
+pub mod EqualFutures
+pub mod Ascending
+pub mod Entries
+pub mod Following
+pub mod NextShareRequest
