@@ -17,7 +17,7 @@ pub struct KeyComparison {
     pub same: bool,
 }
 
-// The key ids in a part of four bytes each, the first sixteen of them.
+// The key ids in a part of four bytes each, the first sixteen of them. The places past the count are left open: no list has them.
 pub fn key_list(s: &[u8]) -> KeyIds
     ensures { λ r. ⌜ (listed r ≡ take 16 (idsIn (now (s .entry)))) × (r .count ≡ min 16 (length (now (s .entry)) / 4)) ⌝ }
 {
