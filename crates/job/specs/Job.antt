@@ -8,7 +8,8 @@ use lib.ListN.{length, take, drop}
 use Rattle.wire.specs.Bytes.{numberAt, every}
 use Rattle.layout.specs.Messages.{Nonce, SignatureShare, Job}
 use Rattle.layout.specs.Encode.{encodeJob}
-use Rattle.layout.specs.Decode.{idsIn, noncesIn, messageLimit, listLimit, signerLimit}
+use Rattle.layout.specs.Decode.{idsIn, noncesIn}
+use Rattle.layout.specs.Limits.{messageLimit, listLimit, signerLimit}
 use Rattle.writer.specs.declared.places.RequestHead.{RequestHead}
 use Rattle.writer.specs.declared.places.Place.{Place}
 use Rattle.writer.specs.Writing.{Writing, writing, total}

@@ -5,6 +5,7 @@ use mathlib.Core.List.{List, [], _∷_, map}
 use lib.Dec.{eqb, leb}
 use lib.ListN.{length, take, drop}
 use Rattle.wire.specs.Bytes.{number, numberAt, every}
+use Rattle.layout.specs.Limits.{messageLimit, listLimit, signerLimit}
 use Rattle.layout.specs.Types.{typeOf}
 use Rattle.layout.specs.LaidOut.{headerIn, partAt, partsFrom, byKind, laidOut}
 use Rattle.layout.specs.Messages.{Nonce, SignatureShare, NonceRequest, NonceResponse, SignatureShareRequest, SignatureShareResponse, Message, nonceRequest, nonceResponse, signatureShareRequest, signatureShareResponse, dkgBegin, dkgSigner, dkgCoordinator}
@@ -67,15 +68,6 @@ messageIn s =
 
 -- Question 9: "message ≤ 256 bytes; per response ≤ 16 key ids, ≤ 16 nonces, ≤ 16 shares with ≤ 16 key ids in all; ≤ 10 responses
 -- nested (9)?"
-abbrev pub messageLimit : ℕ
-messageLimit = 256
-
-abbrev pub listLimit : ℕ
-listLimit = 16
-
-abbrev pub signerLimit : ℕ
-signerLimit = 10
-
 unfoldable pub responseWithin : NonceResponse → Bool
 responseWithin r = leb (length (r .message)) messageLimit && leb (length (r .key-ids)) listLimit && leb (length (r .nonces)) listLimit
 

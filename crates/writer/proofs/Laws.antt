@@ -17,7 +17,8 @@ use Rattle.layout.specs.Encode.{table, headerBytes, packet}
 use Rattle.layout.proofs.Frame.{length-headerBytes, length-table, length-packet}
 use Rattle.writer.specs.declared.frame.Written.the-variants.{Bytes as Count, Refused}
 use Rattle.writer.specs.declared.response.Room.the-variants.{Whole, Short}
-use Rattle.writer.specs.Writing.{answerLength, writing, answer, buffer, Wrote, roomFor, lentAfter, pairs, total}
+use Rattle.layout.specs.Limits.{answerLength}
+use Rattle.writer.specs.Writing.{writing, answer, buffer, Wrote, roomFor, lentAfter, pairs, total}
 
 -- numbers, one after the other
 pub put-field : (l : List ℕ) (at n x : ℕ) (rest : List ℕ) → put (put l at (le n x)) (at + n) rest ≡ put l at (le n x ++ rest)

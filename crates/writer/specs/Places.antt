@@ -9,7 +9,8 @@ use Rattle.layout.specs.declared.SignerId.{SignerId}
 use Rattle.layout.specs.Types.{typeNumber, rootLength}
 use Rattle.layout.specs.Messages.{NonceRequest, NonceResponse, SignatureShareRequest, signatureShareRequest}
 use Rattle.layout.specs.Encode.{encode, encodeNonceTimeout, encodeInsufficientSigners}
-use Rattle.layout.specs.Decode.{idsIn, noncesIn, messageLimit, listLimit, signerLimit, within}
+use Rattle.layout.specs.Decode.{idsIn, noncesIn, within}
+use Rattle.layout.specs.Limits.{messageLimit, listLimit, signerLimit}
 use Rattle.writer.specs.declared.places.RequestHead.{RequestHead}
 use Rattle.writer.specs.declared.places.Place.{Place}
 use Rattle.writer.specs.declared.places.ResponsePlace.{ResponsePlace}

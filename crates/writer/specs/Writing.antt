@@ -13,10 +13,7 @@ use Rattle.writer.specs.declared.response.Room.the-variants.{Whole, Shor
 use Rattle.layout.specs.Messages.{Message}
 use Rattle.layout.specs.Encode.{encode}
 use Rattle.layout.specs.Decode.{within}
-
--- "answer buffer of at least 19,232 bytes (7)?"
-abbrev pub answerLength : ℕ
-answerLength = 19232
+use Rattle.layout.specs.Limits.{answerLength}
 
 pub data Writing : Type 0 where
   written : List ℕ → Writing
