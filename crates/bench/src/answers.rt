@@ -74,8 +74,8 @@ fn state_in(s: &[u8]) -> State {
     }
 }
 
-fn root_in(s: &[u8]) -> [u8; 32] {
-    let mut root = [0u8; 32];
+fn root_in(s: &[u8]) -> [u8; layout::ROOT_LENGTH] {
+    let mut root = [0u8; layout::ROOT_LENGTH];
     root[31] = wire::byte(s, 2);
     root
 }
@@ -87,7 +87,7 @@ fn moves(s: &[u8]) {
 }
 
 // The case that a letter names.
-pub fn run(letter: u8, args: &[u8; 32768], n: usize, store: &[u8; 52224]) {
+pub fn run(letter: u8, args: &[u8; 32768], n: usize, store: &[u8; layout::STORE_LENGTH]) {
     let s = wire::part(args, 0, n);
     match letter {
         b'R' => read(s),

@@ -93,10 +93,10 @@ pub fn assemble(s: &[u8], args: &mut [u8; 32768]) -> usize {
 }
 
 // The store, filled with bytes that differ from place to place: 7 i + i / 251, by 256.
-pub fn pattern() -> [u8; 52224] {
-    let mut store = [0u8; 52224];
+pub fn pattern() -> [u8; layout::STORE_LENGTH] {
+    let mut store = [0u8; layout::STORE_LENGTH];
     let mut i: usize = 0;
-    while i < 52224 {
+    while i < layout::STORE_LENGTH {
         store[i] = ((7 * i + i / 251) % 256) as u8;
         i += 1;
     }

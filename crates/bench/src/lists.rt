@@ -9,8 +9,8 @@ fn id(n: u32) {
 // The numbers of four bytes each in s.
 fn each_id(s: &[u8]) {
     let mut i: usize = 0;
-    while i < s.len() / 4 {
-        id(wire::u32_at(s, 4 * i));
+    while i < s.len() / layout::ID_LENGTH {
+        id(wire::u32_at(s, layout::ID_LENGTH * i));
         i += 1;
     }
 }
@@ -23,10 +23,10 @@ fn ids(s: &[u8]) {
 
 // A kind 2 packet's lists.
 fn response(s: &[u8]) {
-    print::field(b"; message ", packet::parts::message(s).len() as u64);
-    ids(packet::parts::key_ids(s));
-    let nonces = packet::parts::nonces(s);
-    print::field(b", nonces ", (nonces.len() / 66) as u64);
+    print::field(b"; message ", parts::message(s).len() as u64);
+    ids(parts::key_ids(s));
+    let nonces = parts::nonces(s);
+    print::field(b", nonces ", (nonces.len() / layout::NONCE_LENGTH) as u64);
     print::either(
         validity::nonces::are_valid(nonces),
         b" valid",
@@ -36,7 +36,7 @@ fn response(s: &[u8]) {
 
 // A response of a kind 3 packet.
 fn nested(s: &[u8]) {
-    let h = packet::frame::header(s);
+    let h = frame::header(s);
     print::field(b"\n  response of ", h.signer_id as u64);
     print::field(b", sign id ", h.ids.sign_id);
     response(s);
@@ -44,19 +44,19 @@ fn nested(s: &[u8]) {
 
 // A share of a kind 4 packet.
 fn share(s: &[u8]) {
-    print::field(b"\n  share ", packet::parts::share_id(s) as u64);
+    print::field(b"\n  share ", parts::share_id(s) as u64);
     print::text(b", z_i ");
-    print::sum(packet::parts::share_z_i(s));
-    ids(packet::parts::share_key_ids(s));
+    print::sum(parts::share_z_i(s));
+    ids(parts::share_key_ids(s));
 }
 
 // Response or share i, by the packet's kind.
 fn item(kind: u8, s: &[u8], i: usize) {
     let i = (i % 256) as u8;
     if kind == 3 {
-        nested(packet::parts::nested(s, i));
+        nested(parts::nested(s, i));
     } else {
-        share(packet::parts::share(s, i));
+        share(parts::share(s, i));
     }
 }
 
@@ -69,8 +69,8 @@ fn each_item(kind: u8, s: &[u8], count: usize) {
 }
 
 fn request(s: &[u8]) {
-    print::field(b"; message ", packet::parts::message(s).len() as u64);
-    print::field(b", root ", packet::parts::root(s).len() as u64);
+    print::field(b"; message ", parts::message(s).len() as u64);
+    print::field(b", root ", parts::root(s).len() as u64);
 }
 
 // The lists of a packet of that kind.

@@ -8,7 +8,7 @@ mod print;
 mod writes;
 
 // Runs the case on a line: a letter, a label, a bar, the case's bytes as tokens.
-fn run_line(line: &[u8], store: &[u8; 52224]) {
+fn run_line(line: &[u8], store: &[u8; layout::STORE_LENGTH]) {
     let mut args = [0u8; 32768];
     let tokens = lines::after(line, 0, b'|');
     let n = lines::assemble(lines::from_to(line, tokens, line.len()), &mut args);

@@ -2,18 +2,17 @@
 // key ids and nonces 1,120 bytes apart from 256 on, share lists of 640 bytes from 45,824 on.
 use crate::answers;
 use crate::print;
+use framing::Written;
 use job::JobPlace;
 use job::JobPlaces;
 use layout::Ids;
 use layout::SignerId;
+use pieces::places::Place;
+use pieces::places::RequestHead;
+use pieces::places::ResponsePlace;
+use pieces::places::ResponsePlaces;
+use pieces::places::SignerIds;
 use writer::dkg;
-use writer::frame::Written;
-use writer::places::Place;
-use writer::places::RequestHead;
-use writer::places::ResponsePlace;
-use writer::places::ResponsePlaces;
-use writer::places::SignerIds;
-use writer::requests;
 use writer::results;
 
 // A number of a case, in the two bytes at `at`.
@@ -29,7 +28,7 @@ fn head(s: &[u8]) -> RequestHead {
             sign_iter_id: 3,
         },
         signature_type: layout::signature_type(wire::byte(s, 0)),
-        root: [0x17u8; 32],
+        root: [0x17u8; layout::ROOT_LENGTH],
     }
 }
 
@@ -88,7 +87,7 @@ fn job_place(s: &[u8], i: u8) -> JobPlace {
             count: number(s, 9),
         },
         share_keys_at: shares + 576,
-        share_key_counts: [wire::byte(s, 11); 16],
+        share_key_counts: [wire::byte(s, 11); layout::LIST_LIMIT],
     }
 }
 
@@ -131,7 +130,7 @@ fn signers(s: &[u8], at: usize) -> SignerIds {
 }
 
 // The packet that a case's letter names.
-fn write(letter: u8, s: &[u8], store: &[u8; 52224], out: &mut [u8]) -> Written {
+fn write(letter: u8, s: &[u8], store: &[u8; layout::STORE_LENGTH], out: &mut [u8]) -> Written {
     let h = head(s);
     let text = wire::part(store, 0, number(s, 3));
     let id = wire::u16_at(s, 3) as u64;
@@ -172,7 +171,7 @@ fn show(w: Written, out: &[u8]) {
     }
 }
 
-pub fn run(letter: u8, s: &[u8], store: &[u8; 52224]) {
+pub fn run(letter: u8, s: &[u8], store: &[u8; layout::STORE_LENGTH]) {
     let mut out = [0xaau8; 19240];
     let n = (wire::u16_at(s, 1) as usize) % 19241;
     let part = &mut out[0..n];

@@ -17,9 +17,9 @@ use denote.Struct.Field.{u8-field}
 use borrow.Author.Tests.{leb-true}
 use Rattle.wire.specs.Bytes.{Bytes, joined, every}
 use Rattle.wire.proofs.Lists.{and-left, and-right}
-use Rattle.writer.specs.Writing.{total}
-use Rattle.writer.specs.Places.{holds}
-use Rattle.writer.proofs.Given.{Held, held, drop-live, every-at}
+use Rattle.framing.specs.Writing.{total}
+use Rattle.pieces.specs.Places.{holds}
+use Rattle.pieces.proofs.Given.{Held, held, drop-live, live-at}
 use Rattle.job.specs.declared.JobPlace.{JobPlace}
 use Rattle.job.specs.declared.JobPlaces.{JobPlaces}
 use Rattle.job.specs.declared.JobList.{JobList}
@@ -29,8 +29,8 @@ use Rattle.job.proofs.JobPlaces as All
 use Rattle.job.specs.Job.{keyCounts, shareKeys, jobHolds, signersIn, jobsHold, listOf, width, listLength, shareLength, shareLengths}
 
 -- the arrays' lengths and bytes, from what a struct's value is known to be
-pub signers-10 : (ps : JobPlaces) (vs : List Val) → Is All.the-row ps vs → length (ps .places) ≡ 10
-signers-10 ps vs g = rw length-map at (g .1 .1 .0 .1 .0 .1)
+pub jobs-10 : (ps : JobPlaces) (vs : List Val) → Is All.the-row ps vs → length (ps .places) ≡ 10
+jobs-10 ps vs g = rw length-map at (g .1 .1 .0 .1 .0 .1)
 
 pub counts-16 : (p : JobPlace) (vs : List Val) → Is One.the-row p vs → length (p .«share_key_counts») ≡ 16
 counts-16 p vs g = rw length-map at (g .1 .1 .1 .1 .1 .1 .0 .1 .0 .1)
@@ -151,18 +151,18 @@ module _ (size : ℕ) (ps : JobPlaces) (h : jobsHold size ps ≡ true) where
   module _ (vs : List Val) (good : Is All.the-row ps vs) (i : ℕ) (l : i < ps .count) where
     pub signer-holds : jobHolds size (signerAt ps i) ≡ true
     unfolding signersIn
-    signer-holds = every-at (jobHolds size) (ps .places) (ps .count) i _ l (omega (arith, signers-few, signers-10 ps vs good)) signers-hold
+    signer-holds = live-at (jobHolds size) (ps .places) (ps .count) i _ l (omega (arith, signers-few, jobs-10 ps vs good)) signers-hold
 
     pub signer-held : JobHeld size (signerAt ps i)
     signer-held = job-held size (signerAt ps i) signer-holds
 
     pub signer-live : drop i (take (ps .count) (ps .places)) ≡ signerAt ps i ∷ drop (i + 1) (take (ps .count) (ps .places))
-    signer-live = drop-live (ps .places) (ps .count) i _ l (omega (arith, signers-few, signers-10 ps vs good))
+    signer-live = drop-live (ps .places) (ps .count) i _ l (omega (arith, signers-few, jobs-10 ps vs good))
 
     pub signer-shares : length (shareLengths (signerAt ps i)) ≡ signerAt ps i .shares .count
     unfolding shareLengths keyCounts
     signer-shares =
         let p = signerAt ps i in
-        let ten : length (ps .places) ≡ 10 = signers-10 ps vs good in
+        let ten : length (ps .places) ≡ 10 = jobs-10 ps vs good in
         let sixteen : length (p .«share_key_counts») ≡ 16 = each-16 (ps .places) _ (good .1 .1 .0 .1 .1) i _ (omega (arith, signers-few)) in
         rw length-map (length-take-le (p .shares .count) (p .«share_key_counts») (omega (arith, signer-held .shares .few)))

@@ -15,9 +15,9 @@ use Rattle.wire.proofs.Lists.{and-left, and-right, joined-append}
 use Rattle.layout.specs.Encode.{idBytes, nonceBytes, shareBytes}
 use Rattle.layout.specs.Decode.{idsIn, noncesIn}
 use Rattle.layout.proofs.Entries.{idBytes-idsIn}
-use Rattle.writer.specs.Writing.{total}
-use Rattle.writer.proofs.Laws.{total-lengths}
-use Rattle.writer.proofs.Given.{length-bytesAt, ids-at, nonces-at}
+use Rattle.framing.specs.Writing.{total}
+use Rattle.framing.proofs.Laws.{total-lengths}
+use Rattle.pieces.proofs.Given.{length-bytesAt, ids-at, nonces-at}
 use Rattle.job.specs.declared.JobPlace.{JobPlace}
 use Rattle.job.specs.declared.JobList.{JobList}
 use Rattle.job.specs.declared.JobList.the-variants.{KeyIds, Nonces}

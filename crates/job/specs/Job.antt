@@ -10,10 +10,10 @@ use Rattle.layout.specs.Messages.{Nonce, SignatureShare, Job}
 use Rattle.layout.specs.Encode.{encodeJob}
 use Rattle.layout.specs.Decode.{idsIn, noncesIn}
 use Rattle.layout.specs.Limits.{messageLimit, listLimit, signerLimit}
-use Rattle.writer.specs.declared.places.RequestHead.{RequestHead}
-use Rattle.writer.specs.declared.places.Place.{Place}
-use Rattle.writer.specs.Writing.{Writing, writing, total}
-use Rattle.writer.specs.Places.{rootOf, bytesAt, holds}
+use Rattle.pieces.specs.declared.places.RequestHead.{RequestHead}
+use Rattle.pieces.specs.declared.places.Place.{Place}
+use Rattle.framing.specs.Writing.{Writing, writing, total}
+use Rattle.pieces.specs.Places.{rootOf, bytesAt, holds}
 use Rattle.job.specs.declared.JobPlace.{JobPlace}
 use Rattle.job.specs.declared.JobPlaces.{JobPlaces}
 use Rattle.job.specs.declared.JobList.{JobList}
@@ -30,7 +30,8 @@ shareKeys p = record { at = p .«share_keys_at»; count = total (keyCounts p) }
 -- question 9 of a signer's lists: at most 16 key ids, 16 nonces, 16 shares with 16 key ids in all; each in the source
 unfoldable pub jobHolds : ℕ → JobPlace → Bool
 jobHolds size p =
-    holds size 4 listLimit (p .«key_ids») && holds size 66 listLimit (p .nonces) && holds size 36 listLimit (p .shares) && holds size 4 listLimit (shareKeys p)
+    holds size 4 listLimit (p .«key_ids») && holds size 66 listLimit (p .nonces) && holds size 36 listLimit (p .shares)
+    && holds size 4 listLimit (shareKeys p)
 
 -- the signers that count
 unfoldable pub signersIn : JobPlaces → List JobPlace

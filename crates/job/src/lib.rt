@@ -6,19 +6,20 @@ ghost use mathlib.Core.List.{[], _∷_, _++_, map};
 ghost use Prim.Native.Nat.{_+_, _*_, _≤_};
 ghost use lib.ListN.{length, take, drop};
 ghost use Rattle.wire.specs.Bytes.{put, joined};
+ghost use Rattle.layout.specs.Limits.{messageLimit, listLimit};
 ghost use Rattle.layout.specs.Types.{typeNumber};
 ghost use Rattle.layout.specs.Encode.{headerBytes, headerOf, shareBytes};
-ghost use Rattle.writer.specs.Writing.{Wrote, pairs, total};
-ghost use Rattle.writer.specs.Places.{rootOf};
+ghost use Rattle.framing.specs.Writing.{Wrote, pairs, total};
+ghost use Rattle.pieces.specs.Places.{rootOf};
 ghost use Rattle.job.specs.declared.JobList.the-variants.{KeyIds, Nonces};
-ghost use Rattle.job.specs.Job.{keyCounts, jobHolds, jobsHold, signersIn, sharesAt, sharesOf, listOf, listLength, listBytes, shareLengths, writeJob};
+ghost use Rattle.job.specs.Job.{keyCounts, jobHolds, jobsHold, signersIn, sharesAt, sharesOf, writeJob};
+ghost use Rattle.job.specs.Job.{listOf, listLength, listBytes, shareLengths};
+use framing::Written;
 use layout::Header;
-use writer::frame;
-use writer::frame::Written;
-use writer::places;
-use writer::places::Place;
-use writer::places::RequestHead;
-use writer::requests;
+use pieces::body;
+use pieces::places;
+use pieces::places::Place;
+use pieces::places::RequestHead;
 
 // Where a signer's lists lie: key ids (4 bytes each), nonces (66), shares (36: id and z_i), and the shares' key ids one after the
 // other, so many for each share.
@@ -27,11 +28,11 @@ pub struct JobPlace {
     pub nonces: Place,
     pub shares: Place,
     pub share_keys_at: usize,
-    pub share_key_counts: [u8; 16],
+    pub share_key_counts: [u8; layout::LIST_LIMIT],
 }
 
 pub struct JobPlaces {
-    pub places: [JobPlace; 10],
+    pub places: [JobPlace; layout::SIGNER_LIMIT],
     pub count: usize,
 }
 
@@ -56,7 +57,7 @@ pub struct Cursor {
 
 // The key ids of all shares of a signer.
 fn share_key_total(p: JobPlace) -> usize
-    requires { ⌜ p .shares .count ≤ 16 ⌝ }
+    requires { ⌜ p .shares .count ≤ listLimit ⌝ }
     ensures { λ r. ⌜ r ≡ total (keyCounts p) ⌝ }
 {
     let counts = p.share_key_counts;
@@ -75,22 +76,22 @@ fn is_job_held(size: usize, p: JobPlace) -> bool
     ensures { λ r. ⌜ r ≡ jobHolds size p ⌝ }
 {
     let keys = p.key_ids;
-    if !places::is_held(size, 4, 16, keys) {
+    if !places::is_held(size, layout::ID_LENGTH, layout::LIST_LIMIT, keys) {
         return false;
     }
     let nonces = p.nonces;
-    if !places::is_held(size, 66, 16, nonces) {
+    if !places::is_held(size, layout::NONCE_LENGTH, layout::LIST_LIMIT, nonces) {
         return false;
     }
     let shares = p.shares;
-    if !places::is_held(size, 36, 16, shares) {
+    if !places::is_held(size, layout::SHARE_LENGTH, layout::LIST_LIMIT, shares) {
         return false;
     }
     let count = share_key_total(p);
     places::is_held(
         size,
-        4,
-        16,
+        layout::ID_LENGTH,
+        layout::LIST_LIMIT,
         Place {
             at: p.share_keys_at,
             count,
@@ -102,7 +103,7 @@ pub fn are_jobs_held(size: usize, ps: JobPlaces) -> bool
     ensures { λ r. ⌜ r ≡ jobsHold size ps ⌝ }
 {
     let count = ps.count;
-    if 10 < count {
+    if layout::SIGNER_LIMIT < count {
         return false;
     }
     let places = ps.places;
@@ -120,7 +121,9 @@ pub fn are_jobs_held(size: usize, ps: JobPlaces) -> bool
 // The totals of the signers' lists.
 fn list_totals(size: usize, ps: JobPlaces) -> Totals
     requires { ⌜ jobsHold size ps ≡ true ⌝ }
-    ensures { λ r. ⌜ (r .keys ≡ total (map (listLength KeyIds) (signersIn ps))) × (r .nonces ≡ total (map (listLength Nonces) (signersIn ps))) × (r .shares ≡ length (joined (map shareLengths (signersIn ps)))) ⌝ }
+    ensures { λ r. ⌜ (r .keys ≡ total (map (listLength KeyIds) (signersIn ps)))
+        × (r .nonces ≡ total (map (listLength Nonces) (signersIn ps)))
+        × (r .shares ≡ length (joined (map shareLengths (signersIn ps)))) ⌝ }
 {
     let places = ps.places;
     let count = ps.count;
@@ -133,8 +136,8 @@ fn list_totals(size: usize, ps: JobPlaces) -> Totals
         let k = p.key_ids;
         let n = p.nonces;
         let s = p.shares;
-        keys += (k.count as u32) * 4;
-        nonces += (n.count as u32) * 66;
+        keys += (k.count * layout::ID_LENGTH) as u32;
+        nonces += (n.count * layout::NONCE_LENGTH) as u32;
         shares += s.count as u16;
         i += 1;
     }
@@ -147,8 +150,11 @@ fn list_totals(size: usize, ps: JobPlaces) -> Totals
 
 // The header and the first four pairs; the next pair's place, and where the first share begins.
 fn put_job_frame(out: &mut [u8], head: RequestHead, len: u32, t: Totals) -> Cursor
-    requires { ⌜ (len ≤ 256) × (t .keys ≤ 640) × (t .nonces ≤ 10560) × (t .shares ≤ 160) ⌝ }
-    ensures { λ r. ⌜ (r .pair ≡ 64) × (r .at ≡ 64 + 8 * t .shares + len + length (rootOf head) + t .keys + t .nonces) × (now (out .exit) ≡ put (now (out .entry)) 0 (headerBytes (headerOf 32 (typeNumber (head .«signature_type»)) (4 + t .shares) 0 (head .ids)) ++ pairs (64 + 8 * t .shares) (len ∷ (length (rootOf head) ∷ (t .keys ∷ (t .nonces ∷ [])))))) ⌝ }
+    requires { ⌜ (len ≤ messageLimit) × (t .keys ≤ 640) × (t .nonces ≤ 10560) × (t .shares ≤ 160) ⌝ }
+    ensures { λ r. ⌜ (r .pair ≡ 64) × (r .at ≡ 64 + 8 * t .shares + len + length (rootOf head) + t .keys + t .nonces)
+        × (now (out .exit) ≡ put (now (out .entry)) 0
+        (headerBytes (headerOf 32 (typeNumber (head .«signature_type»)) (4 + t .shares) 0 (head .ids))
+        ++ pairs (64 + 8 * t .shares) (len ∷ (length (rootOf head) ∷ (t .keys ∷ (t .nonces ∷ [])))))) ⌝ }
 {
     let signature_type = head.signature_type;
     let type_number = layout::type_number(signature_type);
@@ -157,7 +163,7 @@ fn put_job_frame(out: &mut [u8], head: RequestHead, len: u32, t: Totals) -> Curs
     let at = 64 + 8 * (t.shares as u32);
     let keys_at = at + len + root_len;
     let nonces_at = keys_at + t.keys;
-    frame::put_header(
+    framing::put_header(
         out,
         Header {
             kind: 32,
@@ -167,10 +173,10 @@ fn put_job_frame(out: &mut [u8], head: RequestHead, len: u32, t: Totals) -> Curs
             ids,
         },
     );
-    frame::put_pair(out, 32, at, len);
-    frame::put_pair(out, 40, at + len, root_len);
-    frame::put_pair(out, 48, keys_at, t.keys);
-    frame::put_pair(out, 56, nonces_at, t.nonces);
+    framing::put_pair(out, 32, at, len);
+    framing::put_pair(out, 40, at + len, root_len);
+    framing::put_pair(out, 48, keys_at, t.keys);
+    framing::put_pair(out, 56, nonces_at, t.nonces);
     Cursor {
         pair: 64,
         at: nonces_at + t.nonces,
@@ -179,8 +185,9 @@ fn put_job_frame(out: &mut [u8], head: RequestHead, len: u32, t: Totals) -> Curs
 
 // The pairs of one signer's shares.
 fn put_share_pairs(out: &mut [u8], c: Cursor, p: JobPlace) -> Cursor
-    requires { ⌜ (p .shares .count ≤ 16) × (c .pair ≤ 65536) × (c .at ≤ 1048576) ⌝ }
-    ensures { λ r. ⌜ (r .pair ≡ c .pair + 8 * length (shareLengths p)) × (r .at ≡ c .at + total (shareLengths p)) × (now (out .exit) ≡ put (now (out .entry)) (c .pair) (pairs (c .at) (shareLengths p))) ⌝ }
+    requires { ⌜ (p .shares .count ≤ listLimit) × (c .pair ≤ 65536) × (c .at ≤ 1048576) ⌝ }
+    ensures { λ r. ⌜ (r .pair ≡ c .pair + 8 * length (shareLengths p)) × (r .at ≡ c .at + total (shareLengths p))
+        × (now (out .exit) ≡ put (now (out .entry)) (c .pair) (pairs (c .at) (shareLengths p))) ⌝ }
 {
     let counts = p.share_key_counts;
     let shares = p.shares;
@@ -190,7 +197,7 @@ fn put_share_pairs(out: &mut [u8], c: Cursor, p: JobPlace) -> Cursor
     let mut i: usize = 0;
     while i < count {
         let len = 36 + (counts[i] as u32) * 4;
-        frame::put_pair(out, pair, at, len);
+        framing::put_pair(out, pair, at, len);
         pair += 8;
         at += len;
         i += 1;
@@ -201,7 +208,8 @@ fn put_share_pairs(out: &mut [u8], c: Cursor, p: JobPlace) -> Cursor
 // The pairs of all signers' shares. Answers where the packet ends.
 fn put_all_share_pairs(out: &mut [u8], c: Cursor, size: usize, ps: JobPlaces) -> u32
     requires { ⌜ (c .pair ≡ 64) × (c .at ≤ 13000) × (jobsHold size ps ≡ true) ⌝ }
-    ensures { λ r. ⌜ (r ≡ c .at + total (joined (map shareLengths (signersIn ps)))) × (now (out .exit) ≡ put (now (out .entry)) (c .pair) (pairs (c .at) (joined (map shareLengths (signersIn ps))))) ⌝ }
+    ensures { λ r. ⌜ (r ≡ c .at + total (joined (map shareLengths (signersIn ps))))
+        × (now (out .exit) ≡ put (now (out .entry)) (c .pair) (pairs (c .at) (joined (map shareLengths (signersIn ps))))) ⌝ }
 {
     let places = ps.places;
     let count = ps.count;
@@ -217,7 +225,7 @@ fn put_all_share_pairs(out: &mut [u8], c: Cursor, size: usize, ps: JobPlaces) ->
 
 // The bytes of one list of a signer.
 fn list_place(list: JobList, p: JobPlace) -> Place
-    requires { ⌜ listOf list p .count ≤ 16 ⌝ }
+    requires { ⌜ listOf list p .count ≤ listLimit ⌝ }
     ensures { λ r. ⌜ (r .at ≡ listOf list p .at) × (r .count ≡ listLength list p) ⌝ }
 {
     let keys = p.key_ids;
@@ -225,11 +233,11 @@ fn list_place(list: JobList, p: JobPlace) -> Place
     match list {
         JobList::KeyIds => Place {
             at: keys.at,
-            count: keys.count * 4,
+            count: keys.count * layout::ID_LENGTH,
         },
         JobList::Nonces => Place {
             at: nonces.at,
-            count: nonces.count * 66,
+            count: nonces.count * layout::NONCE_LENGTH,
         },
     }
 }
@@ -256,19 +264,21 @@ fn put_lists(out: &mut [u8], at: u32, list: JobList, source: &[u8], ps: JobPlace
 // One share: id and z_i, then its key ids.
 fn put_share(out: &mut [u8], at: u32, source: &[u8], share_at: usize, keys_at: usize, count: usize)
     requires { ⌜ (count ≤ 255) × («share_at» + 36 ≤ length (now source)) ⌝ }
-    ensures { λ _. ⌜ now (out .exit) ≡ put (now (out .entry)) at (take 36 (drop «share_at» (now (source .entry))) ++ take (count * 4) (drop «keys_at» (now (source .entry)))) ⌝ }
+    ensures { λ _. ⌜ now (out .exit) ≡ put (now (out .entry)) at
+        (take 36 (drop «share_at» (now (source .entry))) ++ take (count * 4) (drop «keys_at» (now (source .entry)))) ⌝ }
 {
-    let head = wire::part(source, share_at, 36);
-    let keys = wire::part(source, keys_at, count * 4);
+    let head = wire::part(source, share_at, layout::SHARE_LENGTH);
+    let keys = wire::part(source, keys_at, count * layout::ID_LENGTH);
     let start = at as usize;
     wire::copy(out, start, head);
-    wire::copy(out, start + 36, keys);
+    wire::copy(out, start + layout::SHARE_LENGTH, keys);
 }
 
 // One signer's shares, one after the other from `at`. Answers where they end.
 fn put_shares(out: &mut [u8], at: u32, source: &[u8], p: JobPlace) -> u32
     requires { ⌜ (at ≤ 1048576) × (jobHolds (length (now source)) p ≡ true) ⌝ }
-    ensures { λ r. ⌜ (r ≡ at + total (shareLengths p)) × (now (out .exit) ≡ put (now (out .entry)) at (joined (map shareBytes (sharesAt (now (source .entry)) p)))) ⌝ }
+    ensures { λ r. ⌜ (r ≡ at + total (shareLengths p))
+        × (now (out .exit) ≡ put (now (out .entry)) at (joined (map shareBytes (sharesAt (now (source .entry)) p)))) ⌝ }
 {
     let counts = p.share_key_counts;
     let shares = p.shares;
@@ -280,8 +290,8 @@ fn put_shares(out: &mut [u8], at: u32, source: &[u8], p: JobPlace) -> u32
     while i < count {
         let n = counts[i] as usize;
         put_share(out, next, source, share_at, keys_at, n);
-        share_at += 36;
-        keys_at += n * 4;
+        share_at += layout::SHARE_LENGTH;
+        keys_at += n * layout::ID_LENGTH;
         next += 36 + (n as u32) * 4;
         i += 1;
     }
@@ -291,7 +301,8 @@ fn put_shares(out: &mut [u8], at: u32, source: &[u8], p: JobPlace) -> u32
 // All signers' shares.
 fn put_all_shares(out: &mut [u8], at: u32, source: &[u8], ps: JobPlaces)
     requires { ⌜ (at ≤ 13000) × (jobsHold (length (now source)) ps ≡ true) ⌝ }
-    ensures { λ _. ⌜ now (out .exit) ≡ put (now (out .entry)) at (joined (map shareBytes (sharesOf (now (source .entry)) (signersIn ps)))) ⌝ }
+    ensures { λ _. ⌜ now (out .exit) ≡ put (now (out .entry)) at
+        (joined (map shareBytes (sharesOf (now (source .entry)) (signersIn ps)))) ⌝ }
 {
     let places = ps.places;
     let count = ps.count;
@@ -312,12 +323,13 @@ pub fn write_job(
     source: &[u8],
     ps: JobPlaces,
 ) -> Written
-    ensures { λ r. ⌜ Wrote (writeJob (length (now (out .entry))) head (now (message .entry)) (now (source .entry)) ps) (now (out .entry)) r (now (out .exit)) ⌝ }
+    ensures { λ r. ⌜ Wrote (writeJob (length (now (out .entry))) head (now (message .entry)) (now (source .entry)) ps)
+        (now (out .entry)) r (now (out .exit)) ⌝ }
 {
-    if out.len() < 19232 {
+    if out.len() < layout::ANSWER_LENGTH {
         return Written::Refused(7);
     }
-    if 256 < message.len() {
+    if layout::MESSAGE_LIMIT < message.len() {
         return Written::Refused(9);
     }
     let size = source.len();
@@ -327,7 +339,7 @@ pub fn write_job(
     let t = list_totals(size, ps);
     let cursor = put_job_frame(out, head, message.len() as u32, t);
     let end = put_all_share_pairs(out, cursor, size, ps);
-    requests::put_body(out, 64 + 8 * (t.shares as u32), head, message);
+    body::put_body(out, 64 + 8 * (t.shares as u32), head, message);
     let shares_at = cursor.at;
     let nonces_at = shares_at - t.nonces;
     put_lists(out, nonces_at - t.keys, JobList::KeyIds, source, ps);

@@ -200,3 +200,12 @@ module _ (s : List ℕ) (b : Bytes s) (w : wholeShare s ≡ true) where
         z-i = record { bytes = bytes-take 32 (drop 4 s) (bytes-drop 4 s b); size = length-take-le 32 (drop 4 s) (rw length-drop (omega (arith, long))) };
         key-ids = fits-idsIn (drop 36 s) (bytes-drop 36 s b) whole;
       }
+
+-- as many ids and nonces as there are whole entries
+pub length-idsIn : (s : List ℕ) → length (idsIn s) ≡ length s / 4
+unfolding idsIn
+length-idsIn s = rw (length-map, length-entries)
+
+pub length-noncesIn : (s : List ℕ) → length (noncesIn s) ≡ length s / 66
+unfolding noncesIn
+length-noncesIn s = rw (length-map, length-entries)

@@ -1,14 +1,17 @@
 -- What a packet says, question 9, and `decode`: the message, or the number of the question that is answered no.
-use Prim.Native.Nat.{ℕ, zero, suc, _+_, _*_, _-_, _/_}
-use mathlib.Core.Bool.{Bool, true, false, cond, _&&_}
+use Prim.Native.Nat.{ℕ, zero, suc, _+_, _-_, _/_}
+use mathlib.Core.Bool.{Bool, true, cond, _&&_}
 use mathlib.Core.List.{List, [], _∷_, map}
-use lib.Dec.{eqb, leb}
+use lib.Dec.{leb}
 use lib.ListN.{length, take, drop}
 use Rattle.wire.specs.Bytes.{number, numberAt, every}
 use Rattle.layout.specs.Limits.{messageLimit, listLimit, signerLimit}
 use Rattle.layout.specs.Types.{typeOf}
 use Rattle.layout.specs.LaidOut.{headerIn, partAt, partsFrom, byKind, laidOut}
-use Rattle.layout.specs.Messages.{Nonce, SignatureShare, NonceRequest, NonceResponse, SignatureShareRequest, SignatureShareResponse, Message, nonceRequest, nonceResponse, signatureShareRequest, signatureShareResponse, dkgBegin, dkgSigner, dkgCoordinator}
+use Rattle.layout.specs.Messages.{Nonce, SignatureShare, NonceRequest, NonceResponse, SignatureShareRequest}
+use Rattle.layout.specs.Messages.{SignatureShareResponse, Message}
+use Rattle.layout.specs.Messages.{nonceRequest, nonceResponse, signatureShareRequest, signatureShareResponse, dkgBegin}
+use Rattle.layout.specs.Messages.{dkgSigner, dkgCoordinator}
 
 -- the first k entries of w bytes each
 unfoldable pub entries : ℕ → ℕ → List ℕ → List (List ℕ)
@@ -38,7 +41,13 @@ responseIn s =
     }
 
 unfoldable pub requestIn : List ℕ → NonceRequest
-requestIn s = record { ids = headerIn s .ids; message = partAt s 32; signature-type = typeOf (headerIn s .«signature_type»); root = partAt s 40 }
+requestIn s =
+    record {
+      ids = headerIn s .ids;
+      message = partAt s 32;
+      signature-type = typeOf (headerIn s .«signature_type»);
+      root = partAt s 40;
+    }
 
 unfoldable pub shareRequestIn : List ℕ → SignatureShareRequest
 shareRequestIn s =
@@ -51,7 +60,12 @@ shareRequestIn s =
     }
 
 unfoldable pub shareResponseIn : List ℕ → SignatureShareResponse
-shareResponseIn s = record { ids = headerIn s .ids; signer-id = headerIn s .«signer_id»; signature-shares = map shareIn (partsFrom s 32 (headerIn s .pairs)) }
+shareResponseIn s =
+    record {
+      ids = headerIn s .ids;
+      signer-id = headerIn s .«signer_id»;
+      signature-shares = map shareIn (partsFrom s 32 (headerIn s .pairs));
+    }
 
 -- what a packet that is laid out says
 unfoldable pub messageIn : List ℕ → Message

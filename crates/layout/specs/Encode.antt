@@ -1,12 +1,14 @@
 -- How a message is laid out in bytes.
-use Prim.Native.Nat.{ℕ, zero, suc, _+_, _*_}
+use Prim.Native.Nat.{ℕ, _+_, _*_}
 use mathlib.Core.List.{List, [], _∷_, _++_, map}
 use lib.ListN.{length}
 use Rattle.wire.specs.Bytes.{le, joined}
 use Rattle.layout.specs.declared.Header.{Header}
 use Rattle.layout.specs.declared.Ids.{Ids}
 use Rattle.layout.specs.Types.{typeNumber}
-use Rattle.layout.specs.Messages.{Nonce, SignatureShare, NonceRequest, NonceResponse, SignatureShareRequest, SignatureShareResponse, Job, Message, nonceRequest, nonceResponse, signatureShareRequest, signatureShareResponse, dkgBegin, dkgSigner, dkgCoordinator}
+use Rattle.layout.specs.Messages.{Nonce, SignatureShare, NonceResponse, Job, Message}
+use Rattle.layout.specs.Messages.{nonceRequest, nonceResponse, signatureShareRequest, signatureShareResponse, dkgBegin}
+use Rattle.layout.specs.Messages.{dkgSigner, dkgCoordinator}
 
 -- "Byte 0 kind; byte 1 signature type; bytes 2-3 number of pairs; 4-7 signer id; 8-15 dkg id; 16-23 sign id; 24-31 iteration."
 unfoldable pub headerBytes : Header → List ℕ

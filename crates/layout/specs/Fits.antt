@@ -5,9 +5,11 @@ use mathlib.Core.List.{List}
 use lib.ListN.{length}
 use Rattle.wire.specs.Bytes.{Bytes, All}
 use Rattle.layout.specs.declared.Ids.{Ids}
-use Rattle.layout.specs.declared.SignatureType.{SignatureType}
 use Rattle.layout.specs.Types.{typeNumber, rootLength}
-use Rattle.layout.specs.Messages.{Nonce, SignatureShare, NonceRequest, NonceResponse, SignatureShareRequest, SignatureShareResponse, Message, nonceRequest, nonceResponse, signatureShareRequest, signatureShareResponse, dkgBegin, dkgSigner, dkgCoordinator}
+use Rattle.layout.specs.Messages.{Nonce, SignatureShare, NonceRequest, NonceResponse, SignatureShareRequest}
+use Rattle.layout.specs.Messages.{SignatureShareResponse, Message}
+use Rattle.layout.specs.Messages.{nonceRequest, nonceResponse, signatureShareRequest, signatureShareResponse, dkgBegin}
+use Rattle.layout.specs.Messages.{dkgSigner, dkgCoordinator}
 use Rattle.layout.specs.Encode.{parts, encode}
 
 pub record IdsFit (i : Ids) : Type 0 where

@@ -1,6 +1,6 @@
 -- Question 8: "kind 1 to 7, laid out as below, every list of whole entries (8)?" It is asked of the whole packet, nested packets
 -- included.
-use Prim.Native.Nat.{ℕ, zero, suc, _+_, _*_, _-_, _/_, _%_}
+use Prim.Native.Nat.{ℕ, zero, suc, _+_, _*_, _-_, _%_}
 use mathlib.Core.Bool.{Bool, true, false, cond, _&&_}
 use mathlib.Core.List.{List, [], _∷_}
 use lib.Dec.{eqb, leb}
@@ -11,7 +11,14 @@ use Rattle.layout.specs.Types.{rootLength}
 
 -- the header in the first 32 bytes
 unfoldable pub headerIn : List ℕ → Header
-headerIn s = record { kind = numberAt 1 0 s; «signature_type» = numberAt 1 1 s; pairs = numberAt 2 2 s; «signer_id» = numberAt 4 4 s; ids = record { «dkg_id» = numberAt 8 8 s; «sign_id» = numberAt 8 16 s; «sign_iter_id» = numberAt 8 24 s } }
+headerIn s =
+    record {
+      kind = numberAt 1 0 s;
+      «signature_type» = numberAt 1 1 s;
+      pairs = numberAt 2 2 s;
+      «signer_id» = numberAt 4 4 s;
+      ids = record { «dkg_id» = numberAt 8 8 s; «sign_id» = numberAt 8 16 s; «sign_iter_id» = numberAt 8 24 s };
+    }
 
 -- the part whose pair stands at place p: as many bytes as the pair's length says, from its offset on
 unfoldable pub partAt : List ℕ → ℕ → List ℕ

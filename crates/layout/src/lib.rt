@@ -2,6 +2,36 @@
 ghost use mathlib.Core.Path.{_≡_};
 ghost use Rattle.layout.specs.Types.{typeNumber, typeOf, resultOf, signerKind, rootLength};
 
+// 01's limits: of a message's bytes, of a response's lists, of signers; and the lengths of the two lent buffers. Contracts cite them by
+// their names in specs/Limits.antt.
+pub const MESSAGE_LIMIT: usize = 256;
+
+pub const LIST_LIMIT: usize = 16;
+
+pub const SIGNER_LIMIT: usize = 10;
+
+pub const STORE_LENGTH: usize = 52224;
+
+pub const ANSWER_LENGTH: usize = 19232;
+
+// The bytes of a header, of a pair, of an id in a list, of a point, of a nonce (two points), of a root, of a scalar, and of a share before
+// its key ids (an id and a scalar).
+pub const HEADER_LENGTH: usize = 32;
+
+pub const PAIR_LENGTH: usize = 8;
+
+pub const ID_LENGTH: usize = 4;
+
+pub const POINT_LENGTH: usize = 33;
+
+pub const NONCE_LENGTH: usize = 66;
+
+pub const ROOT_LENGTH: usize = 32;
+
+pub const SCALAR_LENGTH: usize = 32;
+
+pub const SHARE_LENGTH: usize = 36;
+
 // A signer's number and a key's number are both u32; no lookup takes the other kind.
 pub struct SignerId(pub u32);
 
@@ -70,7 +100,7 @@ pub fn signature_type(n: u8) -> SignatureType
 pub fn root_length(n: u8) -> usize
     ensures { λ r. ⌜ r ≡ rootLength n ⌝ }
 {
-    if n == 3 { 32 } else { 0 }
+    if n == 3 { ROOT_LENGTH } else { 0 }
 }
 
 // What a finished round of this type gives.

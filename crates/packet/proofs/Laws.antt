@@ -1,30 +1,17 @@
 -- Laws of what the reader asks.
 -- Assumes nothing.
-use Prim.Native.Nat.{ℕ, suc, _+_, _*_, _-_, _/_, _≤_, _<_}
+use Prim.Native.Nat.{ℕ, suc, _+_, _*_, _-_, _≤_, _<_}
 use mathlib.Core.Path.{_≡_, refl, ap}
 use mathlib.Core.Bool.{Bool, _&&_}
 use mathlib.Core.List.{List, [], _∷_, map}
 use native.Mathlib.Omega.{arith}
-use lib.ListN.{length, length-map, length-take, length-drop}
+use lib.ListN.{length, length-take, length-drop}
 use Rattle.wire.specs.Bytes.{every}
-use Rattle.layout.specs.LaidOut.{partAt, partsFrom, byKind}
-use Rattle.layout.specs.Decode.{idsIn, noncesIn, shareIn, responseIn, responseWithin}
-use Rattle.layout.proofs.Entries.{length-entries}
+use Rattle.layout.specs.LaidOut.{partAt, partsFrom}
+use Rattle.layout.specs.Decode.{shareIn, responseIn, responseWithin}
+use Rattle.layout.proofs.Entries.{length-idsIn}
 use Rattle.packet.specs.declared.reader.PartTest.the-variants.{ResponseWithin}
 use Rattle.packet.specs.Reading.{partTest}
-
--- the answer by a kind that is known
-pub by-kind : {A : Type 0} {k n : ℕ} (a₁ a₂ a₃ a₄ a₅ a₆ a₇ other : A) → k ≡ n → byKind k a₁ a₂ a₃ a₄ a₅ a₆ a₇ other ≡ byKind n a₁ a₂ a₃ a₄ a₅ a₆ a₇ other
-by-kind a₁ a₂ a₃ a₄ a₅ a₆ a₇ other e = ap (λ (k : ℕ). byKind k a₁ a₂ a₃ a₄ a₅ a₆ a₇ other) e
-
--- as many ids and nonces as there are whole entries
-pub length-idsIn : (s : List ℕ) → length (idsIn s) ≡ length s / 4
-unfolding idsIn
-length-idsIn s = rw (length-map, length-entries)
-
-pub length-noncesIn : (s : List ℕ) → length (noncesIn s) ≡ length s / 66
-unfolding noncesIn
-length-noncesIn s = rw (length-map, length-entries)
 
 -- the parts from part i on: part i and those after it
 pub parts-step : (s : List ℕ) (i n : ℕ) → i < n → partsFrom s (32 + 8 * i) (n - i) ≡ partAt s (32 + 8 * i) ∷ partsFrom s (32 + 8 * (i + 1)) (n - (i + 1))

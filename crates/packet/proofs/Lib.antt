@@ -1,4 +1,2 @@
--- Laws about what the reader asks, and what a packet that it takes says.
-pub mod Flags
+-- Laws about what the reader asks.
 pub mod Laws
-pub mod Taken

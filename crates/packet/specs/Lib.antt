@@ -1,2 +1,2 @@
--- What the reader answers, and which part of a packet is which list of its message.
+-- What the reader answers, and what it asks of each part.
 pub mod Reading

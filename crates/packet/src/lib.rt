@@ -1,5 +1,3 @@
-// Packets, read: the reader answers what a slice of bytes says as a packet, for any slice whatever, and the parts of a packet that it
-// takes are handed out as slices. The layout is defined in the crate layout.
-pub mod frame;
-pub mod parts;
+// Packets, read: the reader answers what a slice of bytes says as a packet, for any slice whatever. The layout is defined in the crate
+// layout; the parts of a packet that the reader takes are handed out by the crate parts.
 pub mod reader;

@@ -1,16 +1,16 @@
 // The reader: questions 8 and 9, asked of any slice of bytes. 8 is asked of the whole packet, nested packets included, before 9 is
 // asked of anything.
 ghost use mathlib.Core.Path.{_≡_};
-ghost use Prim.Native.Nat.{_+_, _*_, _-_, _≤_};
+ghost use Prim.Native.Nat.{_+_, _*_, _-_};
 ghost use mathlib.Core.List.{map};
 ghost use lib.Dec.{eqb, leb};
 ghost use lib.ListN.{length};
 ghost use Rattle.wire.specs.Bytes.{every};
-ghost use Rattle.layout.specs.LaidOut.{partAt, partsFrom, dkgOnly, headed, framed, wholeResponse, responseLaidOut, wholeShare, wholeRoot, wholeLists, laidOut};
+ghost use Rattle.layout.specs.LaidOut.{partAt, partsFrom, wholeResponse, responseLaidOut, wholeShare, wholeLists, laidOut};
+ghost use Rattle.layout.specs.Limits.{messageLimit, listLimit};
 ghost use Rattle.layout.specs.Types.{rootLength};
 ghost use Rattle.layout.specs.Decode.{decode, messageIn, responseIn, responseWithin, shareIn, keyCount, within};
 ghost use Rattle.packet.specs.Reading.{reading, partTest};
-use crate::frame;
 use layout::Header;
 
 // The reader's answer: the header of a packet that is taken, or 01's number.
@@ -26,72 +26,22 @@ pub enum PartTest {
     ResponseWithin,
 }
 
-// A header with nothing but a dkg id and perhaps a signer.
-fn dkg_only(h: Header) -> bool
-    ensures { λ r. ⌜ r ≡ dkgOnly h ⌝ }
-{
-    let ids = h.ids;
-    h.signature_type == 0 && h.pairs == 0 && ids.sign_id == 0 && ids.sign_iter_id == 0
-}
-
-// Kind 1 to 7, the fields that the kind lacks 0, a type at most 3, the kind's number of pairs.
-fn is_headed(h: Header) -> bool
-    ensures { λ r. ⌜ r ≡ headed h ⌝ }
-{
-    let kind = h.kind;
-    if kind == 1 {
-        return h.signer_id == 0 && h.signature_type <= 3 && h.pairs == 2;
-    }
-    if kind == 2 {
-        return h.signature_type == 0 && h.pairs == 3;
-    }
-    if kind == 3 {
-        return h.signer_id == 0 && h.signature_type <= 3 && 2 <= h.pairs;
-    }
-    if kind == 4 {
-        return h.signature_type == 0;
-    }
-    if kind == 5 {
-        return h.signer_id == 0 && dkg_only(h);
-    }
-    if kind == 6 {
-        return dkg_only(h);
-    }
-    if kind == 7 {
-        return h.signer_id == 0 && dkg_only(h);
-    }
-    false
-}
-
-fn is_framed(s: &[u8]) -> bool
-    ensures { λ r. ⌜ r ≡ framed (now (s .entry)) ⌝ }
-{
-    if s.len() < 32 {
-        return false;
-    }
-    let h = frame::header(s);
-    if !is_headed(h) {
-        return false;
-    }
-    frame::tiled(s, h.pairs)
-}
-
 // The lists of a kind 2 packet: whole key ids, whole nonces.
 fn is_whole_response(s: &[u8]) -> bool
     ensures { λ r. ⌜ r ≡ wholeResponse (now (s .entry)) ⌝ }
 {
     let keys = frame::part_at(s, 1);
-    if keys.len() % 4 != 0 {
+    if keys.len() % layout::ID_LENGTH != 0 {
         return false;
     }
     let nonces = frame::part_at(s, 2);
-    nonces.len() % 66 == 0
+    nonces.len() % layout::NONCE_LENGTH == 0
 }
 
 fn is_response_laid_out(s: &[u8]) -> bool
     ensures { λ r. ⌜ r ≡ responseLaidOut (now (s .entry)) ⌝ }
 {
-    if !is_framed(s) {
+    if !frame::is_framed(s) {
         return false;
     }
     let h = frame::header(s);
@@ -104,10 +54,10 @@ fn is_response_laid_out(s: &[u8]) -> bool
 fn is_whole_share(s: &[u8]) -> bool
     ensures { λ r. ⌜ r ≡ wholeShare (now (s .entry)) ⌝ }
 {
-    if s.len() < 36 {
+    if s.len() < layout::SHARE_LENGTH {
         return false;
     }
-    (s.len() - 36) % 4 == 0
+    (s.len() - layout::SHARE_LENGTH) % layout::ID_LENGTH == 0
 }
 
 // The limits of a kind 2 packet.
@@ -115,15 +65,15 @@ fn is_response_within(s: &[u8]) -> bool
     ensures { λ r. ⌜ r ≡ responseWithin (responseIn (now (s .entry))) ⌝ }
 {
     let message = frame::part_at(s, 0);
-    if 256 < message.len() {
+    if layout::MESSAGE_LIMIT < message.len() {
         return false;
     }
     let keys = frame::part_at(s, 1);
-    if 16 < keys.len() / 4 {
+    if layout::LIST_LIMIT < keys.len() / layout::ID_LENGTH {
         return false;
     }
     let nonces = frame::part_at(s, 2);
-    nonces.len() / 66 <= 16
+    nonces.len() / layout::NONCE_LENGTH <= layout::LIST_LIMIT
 }
 
 fn passes(test: PartTest, s: &[u8]) -> bool
@@ -193,7 +143,7 @@ fn has_whole_lists(s: &[u8]) -> bool
 fn is_laid_out(s: &[u8]) -> bool
     ensures { λ r. ⌜ r ≡ laidOut (now (s .entry)) ⌝ }
 {
-    if !is_framed(s) {
+    if !frame::is_framed(s) {
         return false;
     }
     has_whole_lists(s)
@@ -204,21 +154,21 @@ fn share_keys(s: &[u8], i: u16) -> usize
     ensures { λ r. ⌜ r ≡ length (shareIn (partAt (now (s .entry)) (32 + 8 * i)) .key-ids) ⌝ }
 {
     let share = frame::part_at(s, i);
-    if share.len() < 36 {
+    if share.len() < layout::SHARE_LENGTH {
         return 0;
     }
-    (share.len() - 36) / 4
+    (share.len() - layout::SHARE_LENGTH) / layout::ID_LENGTH
 }
 
 // At most 16 key ids over all shares.
 fn are_share_keys_within(s: &[u8], pairs: u16) -> bool
-    ensures { λ r. ⌜ r ≡ leb (keyCount (map shareIn (partsFrom (now (s .entry)) 32 pairs))) 16 ⌝ }
+    ensures { λ r. ⌜ r ≡ leb (keyCount (map shareIn (partsFrom (now (s .entry)) 32 pairs))) listLimit ⌝ }
 {
     let mut total: usize = 0;
     let mut i: u16 = 0;
     while i < pairs {
         total += share_keys(s, i);
-        if 16 < total {
+        if layout::LIST_LIMIT < total {
             return false;
         }
         i += 1;
@@ -227,10 +177,10 @@ fn are_share_keys_within(s: &[u8], pairs: u16) -> bool
 }
 
 fn is_message_within(s: &[u8]) -> bool
-    ensures { λ r. ⌜ r ≡ leb (length (partAt (now (s .entry)) 32)) 256 ⌝ }
+    ensures { λ r. ⌜ r ≡ leb (length (partAt (now (s .entry)) 32)) messageLimit ⌝ }
 {
     let message = frame::part_at(s, 0);
-    message.len() <= 256
+    message.len() <= layout::MESSAGE_LIMIT
 }
 
 // Question 9, of a packet that is laid out.
@@ -250,13 +200,13 @@ fn is_within(s: &[u8]) -> bool
         if !is_message_within(s) {
             return false;
         }
-        if 12 < pairs {
+        if layout::SIGNER_LIMIT + 2 < (pairs as usize) {
             return false;
         }
         return every_part(PartTest::ResponseWithin, s, 2, pairs);
     }
     if kind == 4 {
-        if 16 < pairs {
+        if layout::LIST_LIMIT < (pairs as usize) {
             return false;
         }
         return are_share_keys_within(s, pairs);

@@ -1,9 +1,9 @@
 -- The table and the rule: a move is accepted where the table's entry says so and the types agree.
 -- Assumes nothing.
-use Prim.Native.Nat.{ℕ, zero, suc, _<_}
-use mathlib.Core.Path.{_≡_, refl, sym, ap, _∙_}
+use Prim.Native.Nat.{ℕ, _<_}
+use mathlib.Core.Path.{_≡_, refl, sym, ap}
 use mathlib.Core.Bool.{Bool, true, false, _&&_, _||_, false≢true}
-use mathlib.Core.List.{List, [], _∷_}
+use mathlib.Core.List.{List, []}
 use lib.Dec.{eqb, lit<}
 use lib.ListN.{getD}
 use Rattle.layout.specs.declared.SignatureType.the-variants.{Frost}
@@ -11,7 +11,7 @@ use Rattle.state_table.specs.declared.State.{State}
 use Rattle.state_table.specs.declared.State.the-variants.{Idle, DkgPublicDistribute, DkgPublicGather, DkgPublicSharesDoneDistribute, DkgPublicSharesDoneGather, DkgPrivateDistribute, DkgPrivateGather, DkgPrivateSharesDoneDistribute, DkgPrivateSharesDoneGather, DkgEndDistribute, DkgEndGather, NonceRequest, NonceGather, SigShareRequest, SigShareGather}
 use Rattle.state_table.specs.declared.StateType.{StateType}
 use Rattle.state_table.specs.declared.StateType.the-variants.{Untyped, Typed}
-use Rattle.state_table.specs.States.{Position, position, stateNumber, typeIn, sameType, typesAgree, same}
+use Rattle.state_table.specs.States.{Position, stateNumber, typeIn, sameType, typesAgree, same}
 use Rattle.state_table.specs.Moves.{accepted, canMoveTo, states, allowed}
 
 and-true : (a : Bool) → (a && true) ≡ a

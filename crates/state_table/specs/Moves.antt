@@ -5,7 +5,12 @@ use mathlib.Core.List.{List, [], _∷_}
 use lib.ListN.{getD}
 use Rattle.layout.specs.declared.SignatureType.the-variants.{Frost}
 use Rattle.state_table.specs.declared.State.{State}
-use Rattle.state_table.specs.declared.State.the-variants.{Idle, DkgPublicDistribute, DkgPublicGather, DkgPublicSharesDoneDistribute, DkgPublicSharesDoneGather, DkgPrivateDistribute, DkgPrivateGather, DkgPrivateSharesDoneDistribute, DkgPrivateSharesDoneGather, DkgEndDistribute, DkgEndGather, NonceRequest, NonceGather, SigShareRequest, SigShareGather}
+use Rattle.state_table.specs.declared.State.the-variants.{Idle, DkgPublicDistribute, DkgPublicGather}
+use Rattle.state_table.specs.declared.State.the-variants.{DkgPublicSharesDoneDistribute, DkgPublicSharesDoneGather}
+use Rattle.state_table.specs.declared.State.the-variants.{DkgPrivateDistribute, DkgPrivateGather}
+use Rattle.state_table.specs.declared.State.the-variants.{DkgPrivateSharesDoneDistribute, DkgPrivateSharesDoneGather}
+use Rattle.state_table.specs.declared.State.the-variants.{DkgEndDistribute, DkgEndGather}
+use Rattle.state_table.specs.declared.State.the-variants.{NonceRequest, NonceGather, SigShareRequest, SigShareGather}
 use Rattle.state_table.specs.States.{Position, position, same}
 
 -- whether the previous state p lets the state be entered, with the root that lies beside it

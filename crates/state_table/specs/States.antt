@@ -7,7 +7,12 @@ use Rattle.wire.specs.Bytes.{sameBytes}
 use Rattle.layout.specs.declared.SignatureType.{SignatureType}
 use Rattle.layout.specs.Types.{typeNumber}
 use Rattle.state_table.specs.declared.State.{State}
-use Rattle.state_table.specs.declared.State.the-variants.{Idle, DkgPublicDistribute, DkgPublicGather, DkgPublicSharesDoneDistribute, DkgPublicSharesDoneGather, DkgPrivateDistribute, DkgPrivateGather, DkgPrivateSharesDoneDistribute, DkgPrivateSharesDoneGather, DkgEndDistribute, DkgEndGather, NonceRequest, NonceGather, SigShareRequest, SigShareGather}
+use Rattle.state_table.specs.declared.State.the-variants.{Idle, DkgPublicDistribute, DkgPublicGather}
+use Rattle.state_table.specs.declared.State.the-variants.{DkgPublicSharesDoneDistribute, DkgPublicSharesDoneGather}
+use Rattle.state_table.specs.declared.State.the-variants.{DkgPrivateDistribute, DkgPrivateGather}
+use Rattle.state_table.specs.declared.State.the-variants.{DkgPrivateSharesDoneDistribute, DkgPrivateSharesDoneGather}
+use Rattle.state_table.specs.declared.State.the-variants.{DkgEndDistribute, DkgEndGather}
+use Rattle.state_table.specs.declared.State.the-variants.{NonceRequest, NonceGather, SigShareRequest, SigShareGather}
 use Rattle.state_table.specs.declared.StateType.{StateType}
 use Rattle.state_table.specs.declared.StateType.the-variants.{Untyped, Typed}
 

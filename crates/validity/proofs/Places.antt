@@ -1,19 +1,20 @@
 -- Key lists by their places: in a KeyIds, and in the bytes of a part.
 -- Assumes nothing.
-use Prim.Native.Nat.{ℕ, zero, suc, min, _+_, _*_, _/_, _≤_, _<_}
+use Prim.Native.Nat.{ℕ, zero, suc, min, _+_, _*_, _-_, _/_, _≤_, _<_}
 use mathlib.Core.Path.{_≡_, refl, sym, ap, _∙_}
-use mathlib.Core.List.{List, [], _∷_, map}
+use mathlib.Core.List.{List, [], _∷_, _++_, map, map-append, append-assoc}
 use native.Mathlib.Nat.{min-eq-left, suc-min-suc, mul-zero, mul-suc, add-comm}
 use native.Mathlib.Numerals.{add-one}
 use native.Mathlib.Omega.{arith}
 use lib.ListN.{length, getD, set, take, drop, length-map, length-take, drop-of-length-le, List·getD-map}
-use lib.Seq.{take-nil, take-suc, take-suc-set, drop-cons, drop-drop, getD-take}
+use lib.Seq.{take-nil, take-suc, set-at, drop-cons, drop-drop, getD-take, length-take-le, take-append-seam}
 use Rattle.wire.specs.Bytes.{number, numberAt}
 use Rattle.layout.specs.declared.KeyId.{KeyId}
 use Rattle.layout.specs.Decode.{entries, idsIn}
-use Rattle.layout.proofs.Entries.{length-entries}
+use Rattle.layout.proofs.Entries.{length-idsIn}
 use Rattle.validity.specs.declared.keys.KeyIds.{KeyIds}
-use Rattle.validity.specs.Keys.{keyNumber, listed}
+use Rattle.layout.specs.Limits.{listLimit}
+use Rattle.validity.specs.Keys.{keyNumber, keyOf, keyPlaces, keyList, listed}
 
 -- no more is taken than there is
 take-min : (l : List ℕ) (n : ℕ) → take (min n (length l)) l ≡ take n l
@@ -48,28 +49,38 @@ unfolding entries
 entry-at w (suc k) zero s h = rw (mul-zero w)
 entry-at w (suc k) (suc i) s h = rw (entry-at w k i (drop w s) (omega arith), drop-drop, mul-suc, add-comm w (w * i))
 
--- a part has as many ids as whole entries
-length-idsIn : (s : List ℕ) → length (idsIn s) ≡ length s / 4
-unfolding idsIn
-length-idsIn s = length-map (entries 4 (length s / 4) s) number ∙ length-entries 4 (length s / 4) s
-
 -- the ith id
 id-at : (s : List ℕ) (i : ℕ) → i < length s / 4 → getD (idsIn s) i 0 ≡ numberAt 4 (4 * i) s
 unfolding idsIn number
 id-at s i h = List·getD-map number (entries 4 (length s / 4) s) i [] ∙ ap number (entry-at 4 (length s / 4) i s h)
 
--- a key that is set, seen in the numbers
-map-set : (ids : List KeyId) (i : ℕ) (k : KeyId) → map keyNumber (set ids i k) ≡ set (map keyNumber ids) i (keyNumber k)
-map-set [] i k = refl
-map-set (x ∷ ids) zero k = refl
-map-set (x ∷ ids) (suc i) k = ap (λ (t : List ℕ). x .0 ∷ t) (map-set ids i k)
-
--- one more id is read into its place
-pub keys-read : (s : List ℕ) (ids : List KeyId) (i : ℕ) → i < length ids → i < length s / 4 → keys i ids ≡ take i (idsIn s) → keys (i + 1) (set ids i (record { 0 = numberAt 4 (4 * i) s })) ≡ take (i + 1) (idsIn s)
-keys-read s ids i hi hs e = rw (add-one, map-set, take-suc-set (map keyNumber ids) i _ (rw length-map hi), e, take-suc (idsIn s) i 0 (rw length-idsIn hs), id-at s i hs)
+-- a place more: the next id in the first place that holds 0
+pub place-read :
+    (s : List ℕ) (i : ℕ) → i < listLimit → i < length s / 4
+    → set (keyPlaces (take i (idsIn s))) i (keyOf (numberAt 4 (4 * i) s)) ≡ keyPlaces (take (i + 1) (idsIn s))
+unfolding keyPlaces
+place-read s i h l =
+    let n : length (take i (idsIn s)) ≡ i = length-take-le i (idsIn s) (rw length-idsIn (omega arith)) in
+    let m : length (take (i + 1) (idsIn s)) ≡ i + 1 = length-take-le (i + 1) (idsIn s) (rw length-idsIn (omega arith)) in
+    let e : take (i + 1) (idsIn s) ≡ take i (idsIn s) ++ (numberAt 4 (4 * i) s ∷ []) =
+    rw (add-one, take-suc (idsIn s) i 0 (rw length-idsIn l), id-at s i l) in
+    let left : listLimit - i ≡ suc (listLimit - (i + 1)) = omega arith in
+    rw (n, m, e, left, map-append, append-assoc) (set-at (map keyOf (take i (idsIn s))) (keyOf 0) _ _ i (rw length-map n))
 
 -- as many as there are, up to sixteen
-pub keys-whole : (s : List ℕ) (n : ℕ) → n ≡ min 16 (length s / 4) → take n (idsIn s) ≡ take 16 (idsIn s)
+pub keys-whole : (s : List ℕ) (n : ℕ) → n ≡ min (length s / 4) listLimit → take n (idsIn s) ≡ take listLimit (idsIn s)
 keys-whole s n e =
-    let m : min 16 (length (idsIn s)) ≡ n = rw (length-idsIn, e) in
-    rw m at (take-min (idsIn s) 16)
+    let m : min listLimit (length (idsIn s)) ≡ n = rw length-idsIn (omega arith) in
+    rw m at (take-min (idsIn s) listLimit)
+
+-- the list in the places is the list that was read
+numbers-back : (ks : List ℕ) → map keyNumber (map keyOf ks) ≡ ks
+numbers-back [] = refl
+numbers-back (k ∷ ks) = ap (λ (t : List ℕ). k ∷ t) (numbers-back ks)
+
+pub listed-keyList : (s : List ℕ) → listed (keyList s) ≡ take listLimit (idsIn s)
+unfolding listed keyList keyPlaces
+listed-keyList s =
+    let n : length (take listLimit (idsIn s)) ≡ min (length s / 4) listLimit = rw (length-take, length-idsIn) (omega arith) in
+    let m : length (map keyNumber (map keyOf (take listLimit (idsIn s)))) ≡ min (length s / 4) listLimit = rw (length-map, length-map, n) in
+    rw (map-append, ← m, take-append-seam) (numbers-back (take listLimit (idsIn s)))

@@ -1,14 +1,13 @@
 // Key lists by value, and their comparison as sets: order and repeats don't count.
 ghost use mathlib.Core.Path.{_≡_};
-ghost use Prim.Native.Nat.{min, _/_};
-ghost use lib.ListN.{length, take};
-ghost use Rattle.validity.specs.Keys.{listed, member, subset, sameSet};
-ghost use Rattle.layout.specs.Decode.{idsIn};
+ghost use Prim.Native.Nat.{min};
+ghost use Rattle.layout.specs.Limits.{listLimit};
+ghost use Rattle.validity.specs.Keys.{keyList, listed, member, subset, sameSet};
 use layout::KeyId;
 
 // A list of key ids: the first `count` of sixteen places.
 pub struct KeyIds {
-    pub ids: [KeyId; 16],
+    pub ids: [KeyId; layout::LIST_LIMIT],
     pub count: usize,
 }
 
@@ -17,33 +16,36 @@ pub struct KeyComparison {
     pub same: bool,
 }
 
-// The key ids in a part of four bytes each, the first sixteen of them. The places past the count are left open: no list has them.
-pub fn key_list(s: &[u8]) -> KeyIds
-    ensures { λ r. ⌜ (listed r ≡ take 16 (idsIn (now (s .entry)))) × (r .count ≡ min 16 (length (now (s .entry)) / 4)) ⌝ }
+// How many places of a list count: at most the sixteen that there are.
+fn live(count: usize) -> usize
+    ensures { λ r. ⌜ r ≡ min count listLimit ⌝ }
 {
-    let mut ids = [KeyId(0); 16];
-    let whole = s.len() / 4;
-    let count = if whole < 16 { whole } else { 16 };
+    if count < layout::LIST_LIMIT {
+        count
+    } else {
+        layout::LIST_LIMIT
+    }
+}
+
+// The key ids in a part of four bytes each, the first sixteen of them; the places past the count hold 0.
+pub fn key_list(s: &[u8]) -> KeyIds
+    ensures { λ r. ⌜ r ≡ keyList (now (s .entry)) ⌝ }
+{
+    let mut ids = [KeyId(0); layout::LIST_LIMIT];
+    let count = live(s.len() / layout::ID_LENGTH);
     let mut i: usize = 0;
     while i < count {
-        ids[i] = KeyId(wire::u32_at(s, 4 * i));
+        ids[i] = KeyId(wire::u32_at(s, layout::ID_LENGTH * i));
         i += 1;
     }
     KeyIds { ids, count }
-}
-
-// How many places of the list count: at most the sixteen that there are.
-fn live(list: KeyIds) -> usize
-    ensures { λ r. ⌜ r ≡ min (list .count) 16 ⌝ }
-{
-    if list.count < 16 { list.count } else { 16 }
 }
 
 fn is_member(key: KeyId, list: KeyIds) -> bool
     ensures { λ r. ⌜ r ≡ member (key .0) (listed list) ⌝ }
 {
     let ids = list.ids;
-    let count = live(list);
+    let count = live(list.count);
     let mut i: usize = 0;
     while i < count {
         let other = ids[i];
@@ -59,7 +61,7 @@ fn is_subset(list: KeyIds, set: KeyIds) -> bool
     ensures { λ r. ⌜ r ≡ subset (listed list) (listed set) ⌝ }
 {
     let ids = list.ids;
-    let count = live(list);
+    let count = live(list.count);
     let mut i: usize = 0;
     while i < count {
         let key = ids[i];

@@ -4,43 +4,9 @@ ghost use lib.ListN.{take, drop};
 ghost use Rattle.validity.specs.Nonces.{validPoint, validNonce, noncesValid};
 ghost use Rattle.layout.specs.Decode.{nonceIn, noncesIn};
 
-const IDENTITY: [u8; 33] = [
-    0,
-    0,
-    0,
-    0,
-    0,
-    0,
-    0,
-    0,
-    0,
-    0,
-    0,
-    0,
-    0,
-    0,
-    0,
-    0,
-    0,
-    0,
-    0,
-    0,
-    0,
-    0,
-    0,
-    0,
-    0,
-    0,
-    0,
-    0,
-    0,
-    0,
-    0,
-    0,
-    0,
-];
+const IDENTITY: [u8; layout::POINT_LENGTH] = [0; layout::POINT_LENGTH];
 
-const GENERATOR: [u8; 33] = [
+const GENERATOR: [u8; layout::POINT_LENGTH] = [
     0x02,
     0x79,
     0xBE,
@@ -91,11 +57,11 @@ fn is_valid_point(s: &[u8]) -> bool
 fn is_valid_nonce(s: &[u8]) -> bool
     ensures { λ r. ⌜ r ≡ validNonce (nonceIn (now (s .entry))) ⌝ }
 {
-    let d = wire::part(s, 0, 33);
+    let d = wire::part(s, 0, layout::POINT_LENGTH);
     if !is_valid_point(d) {
         return false;
     }
-    let e = wire::part(s, 33, s.len());
+    let e = wire::part(s, layout::POINT_LENGTH, s.len());
     is_valid_point(e)
 }
 
@@ -103,7 +69,7 @@ fn is_valid_nonce(s: &[u8]) -> bool
 fn is_valid_nonce_at(s: &[u8], at: usize) -> bool
     ensures { λ r. ⌜ r ≡ validNonce (nonceIn (take 66 (drop at (now (s .entry))))) ⌝ }
 {
-    let nonce = wire::part(s, at, 66);
+    let nonce = wire::part(s, at, layout::NONCE_LENGTH);
     is_valid_nonce(nonce)
 }
 
@@ -111,14 +77,14 @@ fn is_valid_nonce_at(s: &[u8], at: usize) -> bool
 pub fn are_valid(s: &[u8]) -> bool
     ensures { λ r. ⌜ r ≡ noncesValid (noncesIn (now (s .entry))) ⌝ }
 {
-    let count = s.len() / 66;
+    let count = s.len() / layout::NONCE_LENGTH;
     let mut i: usize = 0;
     let mut at: usize = 0;
     while i < count {
         if !is_valid_nonce_at(s, at) {
             return false;
         }
-        at += 66;
+        at += layout::NONCE_LENGTH;
         i += 1;
     }
     true

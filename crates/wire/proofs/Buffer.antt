@@ -1,12 +1,12 @@
 -- Laws of a buffer that is written in part. None has a side condition but those that read it: what falls past the end is dropped.
 -- Assumes nothing.
-use Prim.Native.Nat.{ℕ, zero, suc, _+_, _≤_, _<_}
-use mathlib.Core.Path.{_≡_, refl, sym, ap, subst, _∙_}
+use Prim.Native.Nat.{ℕ, zero, suc, _+_, _≤_}
+use mathlib.Core.Path.{_≡_, refl, sym, ap, _∙_}
 use mathlib.Core.List.{List, [], _∷_, _++_}
-use native.Mathlib.Nat.{add-suc, suc-add, add-zero, zero-add, le-trans}
+use native.Mathlib.Nat.{add-suc, suc-add, add-zero, zero-add}
 use native.Mathlib.Omega.{arith}
-use lib.ListN.{length, getD, set, take, drop, length-set}
-use lib.Seq.{sets, sets-eq, set-out, take-set-le, drop-set-add}
+use lib.ListN.{length, set, take, drop, length-set}
+use lib.Seq.{sets, sets-eq, set-out}
 use Rattle.wire.specs.Bytes.{put}
 
 pub length-put : (l : List ℕ) (at : ℕ) (bs : List ℕ) → length (put l at bs) ≡ length l

@@ -1,12 +1,12 @@
 -- Laws of lists, tests and joined parts.
 -- Assumes nothing.
-use Prim.Native.Nat.{ℕ, _+_, _*_, _≤_}
+use Prim.Native.Nat.{ℕ, zero, suc, _+_, _*_, _≤_, _<_}
 use mathlib.Core.Path.{_≡_, refl, sym, ap, ap₂, _∙_}
 use mathlib.Core.Bool.{Bool, true, false, _&&_, false≢true}
 use mathlib.Core.List.{List, [], _∷_, _++_, map, append-assoc}
 use native.Mathlib.Nat.{zero-mul, suc-mul, add-comm}
 use native.Mathlib.Omega.{arith}
-use lib.ListN.{length, length-append}
+use lib.ListN.{length, getD, length-append}
 use Rattle.wire.specs.Bytes.{Bytes, joined, every, All}
 use Rattle.wire.proofs.Numbers.{bytes-append}
 
@@ -23,7 +23,18 @@ pub and-both : (a b : Bool) → a ≡ true → b ≡ true → a && b ≡ true
 and-both true b ea eb = eb
 and-both false b ea eb = ea
 
+pub and-false : (a : Bool) → a && false ≡ false
+and-false true = refl
+and-false false = refl
+
 module _ {A : Type 0} where
+  -- what passes at every element passes at each
+  pub every-at : (f : A → Bool) (xs : List A) (i : ℕ) (d : A) → every f xs ≡ true → i < length xs → f (getD xs i d) ≡ true
+  unfolding every
+  every-at f [] i d e h = let z : ⊥ = omega arith in absurd z
+  every-at f (x ∷ xs) zero d e h = and-left (f x) (every f xs) e
+  every-at f (x ∷ xs) (suc i) d e h = every-at f xs i d (and-right (f x) (every f xs) e) (omega arith)
+
   pub every-all : (f : A → Bool) (xs : List A) → every f xs ≡ true → All (λ (x : A). f x ≡ true) xs
   unfolding every
   every-all f [] e = tt

@@ -1,7 +1,7 @@
 // Fields of bytes in a slice: little-endian numbers, read and written, and a copy. Every function takes any slice and any
 // place: what lies past the end reads as 0 and is not written.
 ghost use mathlib.Core.Path.{_≡_};
-ghost use Prim.Native.Nat.{_≤_, _%_, _^_};
+ghost use Prim.Native.Nat.{_≤_, _%_};
 ghost use lib.ListN.{getD, take, drop};
 ghost use Rattle.wire.specs.Bytes.{le, numberAt, put, sameBytes};
 

@@ -1,3 +1,2 @@
--- What a writer answers and leaves in the buffer, and the messages that its arguments say.
-pub mod Writing
-pub mod Places
+-- What is written of the results that are packets.
+pub mod Results

@@ -1,24 +1,23 @@
 // Kinds 5, 6 and 7: a header with a dkg id and nothing more.
-ghost use mathlib.Core.Path.{_≡_};
 ghost use lib.ListN.{length};
 ghost use Rattle.layout.specs.Messages.{dkgBegin, dkgSigner, dkgCoordinator};
 ghost use Rattle.layout.specs.Encode.{headerOf, dkgIds, packet};
 ghost use mathlib.Core.Bool.{true};
 ghost use mathlib.Core.List.{[]};
-ghost use Rattle.writer.specs.Writing.{Wrote, writing, writeMessage};
-use crate::frame;
-use crate::frame::Written;
+ghost use Rattle.framing.specs.Writing.{Wrote, writing, writeMessage};
+use framing::Written;
 use layout::Header;
 use layout::Ids;
 use layout::SignerId;
 
 fn write_dkg(out: &mut [u8], kind: u8, signer_id: u32, dkg_id: u64) -> Written
-    ensures { λ r. ⌜ Wrote (writing (length (now (out .entry))) true (packet (headerOf kind 0 0 «signer_id» (dkgIds «dkg_id»)) [])) (now (out .entry)) r (now (out .exit)) ⌝ }
+    ensures { λ r. ⌜ Wrote (writing (length (now (out .entry))) true (packet (headerOf kind 0 0 «signer_id» (dkgIds «dkg_id»)) []))
+        (now (out .entry)) r (now (out .exit)) ⌝ }
 {
-    if out.len() < 19232 {
+    if out.len() < layout::ANSWER_LENGTH {
         return Written::Refused(7);
     }
-    frame::put_header(
+    framing::put_header(
         out,
         Header {
             kind,
@@ -32,7 +31,7 @@ fn write_dkg(out: &mut [u8], kind: u8, signer_id: u32, dkg_id: u64) -> Written
             },
         },
     );
-    Written::Bytes(32)
+    Written::Bytes(layout::HEADER_LENGTH)
 }
 
 pub fn write_dkg_begin(out: &mut [u8], dkg_id: u64) -> Written
@@ -42,7 +41,8 @@ pub fn write_dkg_begin(out: &mut [u8], dkg_id: u64) -> Written
 }
 
 pub fn write_dkg_signer(out: &mut [u8], signer_id: SignerId, dkg_id: u64) -> Written
-    ensures { λ r. ⌜ Wrote (writeMessage (length (now (out .entry))) (dkgSigner («signer_id» .0) «dkg_id»)) (now (out .entry)) r (now (out .exit)) ⌝ }
+    ensures { λ r. ⌜ Wrote (writeMessage (length (now (out .entry))) (dkgSigner («signer_id» .0) «dkg_id»))
+        (now (out .entry)) r (now (out .exit)) ⌝ }
 {
     write_dkg(out, 6, signer_id.0, dkg_id)
 }

@@ -1,7 +1,4 @@
-// Packets, written: what the coordinator sends and hands out, each into a lent buffer whose bytes past the packet stay as they were.
+// Packets of a header and perhaps lists of signers, written, each into a lent buffer whose bytes past the packet stay as they were: kinds
+// 5, 6 and 7, and the results that are packets (33 and 34).
 pub mod dkg;
-pub mod frame;
-pub mod places;
-pub mod requests;
-pub mod response;
 pub mod results;

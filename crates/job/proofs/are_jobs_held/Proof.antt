@@ -9,9 +9,9 @@ use native.Mathlib.Omega.{arith}
 use borrow.Author.Tests.{not-true, not-false, lt-leb, le-leb}
 use lib.ListN.{length, take, drop}
 use Rattle.wire.specs.Bytes.{every}
-use Rattle.writer.proofs.Given.{every-live}
+use Rattle.pieces.proofs.Given.{every-live}
 use Rattle.job.specs.Job.{jobHolds, signersIn, jobsHold}
-use Rattle.job.proofs.Held.{signers-10, live-none}
+use Rattle.job.proofs.Held.{jobs-10, live-none}
 
 abbrev Inv-loop : tie.InvT-loop
 Inv-loop size count places i₀ i = (i ≤ count) × (every (jobHolds size) (drop i (take count places)) ≡ every (jobHolds size) (take count places))
@@ -44,7 +44,7 @@ tested c b e =
     let start = c .before .before .before .before .before .before in
     let ps = start .args .ps in
     let l = c .before .before .before .loop in
-    let ten : length (ps .places) ≡ 10 = signers-10 ps _ (start .good .1 .0) in
+    let ten : length (ps .places) ≡ 10 = jobs-10 ps _ (start .good .1 .0) in
     sym (every-live _ (ps .places) (ps .count) (l .i) _ b (c .before .before .loop-test .taken) (omega arith) (sym (c .is-job-held .ensures) ∙ e)) ∙ l .inv .1
 
 returns-2 : tie.Need-returns-2 Inv-loop μ-loop

@@ -5,7 +5,7 @@ use Rattle.job.proofs.is_job_held.Statement.{statement}
 use Rattle.job.proofs.is_job_held.Tie as tie
 use mathlib.Core.Path.{sym, _∙_}
 use borrow.Author.Tests.{not-true, not-false}
-use Rattle.writer.proofs.Given.{held}
+use Rattle.pieces.proofs.Given.{held}
 use Rattle.job.specs.Job.{shareKeys, jobHolds}
 
 is-held-requires : tie.Need-is-held-requires

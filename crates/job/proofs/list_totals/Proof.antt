@@ -8,7 +8,7 @@ use mathlib.Core.List.{List, map}
 use native.Mathlib.Omega.{arith}
 use lib.ListN.{length, take, drop, length-append}
 use Rattle.wire.specs.Bytes.{joined}
-use Rattle.writer.specs.Writing.{total}
+use Rattle.framing.specs.Writing.{total}
 use Rattle.job.specs.declared.JobPlace.{JobPlace}
 use Rattle.job.specs.declared.JobList.the-variants.{KeyIds, Nonces}
 use Rattle.job.specs.Job.{signersIn, listLength, shareLengths}
@@ -61,20 +61,20 @@ mul-p c = omega (arith, signers-few _ _ (c .before .before .before .pre))
 array-copy-out-p : tie.Need-array-copy-out-p Inv-loop μ-loop
 array-copy-out-p c = omega (arith, signers-few _ _ (c .before .before .before .pre))
 
-cast-keys : tie.Need-cast-keys Inv-loop μ-loop
-cast-keys c = omega (arith, turn (c .before .before .before .before .before))
-
 mul-keys : tie.Need-mul-keys Inv-loop μ-loop
 mul-keys c = omega (arith, turn (c .before .before .before .before .before))
+
+cast-keys : tie.Need-cast-keys Inv-loop μ-loop
+cast-keys c = omega (arith, turn (c .before .before .before .before .before))
 
 add-keys : tie.Need-add-keys Inv-loop μ-loop
 add-keys c = omega (arith, turn (c .before .before .before .before .before))
 
-cast-nonces : tie.Need-cast-nonces Inv-loop μ-loop
-cast-nonces c = omega (arith, turn (c .before .before .before .before .before .before))
-
 mul-nonces : tie.Need-mul-nonces Inv-loop μ-loop
 mul-nonces c = omega (arith, turn (c .before .before .before .before .before .before))
+
+cast-nonces : tie.Need-cast-nonces Inv-loop μ-loop
+cast-nonces c = omega (arith, turn (c .before .before .before .before .before .before))
 
 add-nonces : tie.Need-add-nonces Inv-loop μ-loop
 add-nonces c = omega (arith, turn (c .before .before .before .before .before .before))
@@ -111,11 +111,11 @@ list-totals-spec =
     loop-holds
     mul-p
     array-copy-out-p
-    cast-keys
     mul-keys
+    cast-keys
     add-keys
-    cast-nonces
     mul-nonces
+    cast-nonces
     add-nonces
     cast-shares
     add-shares

@@ -9,7 +9,7 @@ use native.Mathlib.Omega.{arith}
 use lib.ListN.{length, take, drop, length-append}
 use Rattle.wire.specs.Bytes.{put, joined}
 use Rattle.wire.proofs.Buffer.{length-put}
-use Rattle.writer.specs.Writing.{pairs, total}
+use Rattle.framing.specs.Writing.{pairs, total}
 use Rattle.job.specs.Job.{signersIn, shareLengths}
 use Rattle.job.proofs.Held.{live-none, total-append, signers-few, signer-held, signer-live, all-few, all-short}
 use Rattle.job.proofs.Parts.{put-pairs-next}

@@ -11,7 +11,7 @@ use lib.ListN.{length, take, drop}
 use Rattle.wire.specs.Bytes.{put, joined}
 use Rattle.wire.proofs.Buffer.{put-next, length-put}
 use Rattle.layout.specs.Encode.{shareBytes}
-use Rattle.writer.specs.Writing.{total}
+use Rattle.framing.specs.Writing.{total}
 use Rattle.job.specs.Job.{signersIn, sharesAt, sharesOf, shareLengths}
 use Rattle.job.proofs.Held.{signerAt, live-none, total-append, signers-few, signer-holds, signer-held, signer-live, all-short}
 use Rattle.job.proofs.Lists.{joined-map, length-shares}

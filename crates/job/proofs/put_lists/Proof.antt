@@ -10,9 +10,9 @@ use denote.Ref.{now}
 use lib.ListN.{length, take, drop}
 use Rattle.wire.specs.Bytes.{put, joined}
 use Rattle.wire.proofs.Buffer.{put-next, length-put}
-use Rattle.writer.specs.Writing.{total}
-use Rattle.writer.specs.Places.{bytesAt}
-use Rattle.writer.proofs.Given.{length-bytesAt}
+use Rattle.framing.specs.Writing.{total}
+use Rattle.pieces.specs.Places.{bytesAt}
+use Rattle.pieces.proofs.Given.{length-bytesAt}
 use Rattle.job.specs.Job.{signersIn, listOf, width, listLength, listBytes}
 use Rattle.job.proofs.Held.{signerAt, live-none, width-small, signers-few, signer-held, signer-live, lists-short}
 

@@ -10,9 +10,9 @@ use lib.Seq.{length-take-le}
 use lib.ListN.{length, getD, take, drop, length-map}
 use Rattle.wire.specs.Bytes.{put}
 use Rattle.wire.proofs.Buffer.{length-put}
-use Rattle.writer.specs.Writing.{pairs, total}
-use Rattle.writer.proofs.Laws.{put-pair-next}
-use Rattle.writer.proofs.Given.{map-live}
+use Rattle.framing.specs.Writing.{pairs, total}
+use Rattle.framing.proofs.Laws.{put-pair-next}
+use Rattle.pieces.proofs.Given.{map-live}
 use Rattle.job.specs.Job.{keyCounts, shareLength, shareLengths}
 use Rattle.job.proofs.Held.{counts-16, counts-bytes, live-none}
 

@@ -11,8 +11,8 @@ use lib.ListN.{length, getD, take, drop}
 use Rattle.wire.specs.Bytes.{Bytes, put, joined}
 use Rattle.wire.proofs.Buffer.{put-next, length-put}
 use Rattle.layout.specs.Encode.{shareBytes}
-use Rattle.writer.specs.Writing.{total}
-use Rattle.writer.proofs.Given.{drop-live}
+use Rattle.framing.specs.Writing.{total}
+use Rattle.pieces.proofs.Given.{drop-live}
 use Rattle.job.specs.declared.JobPlace.{JobPlace}
 use Rattle.job.specs.Job.{keyCounts, shareKeys, sharesFrom, sharesAt, shareLength, shareLengths}
 use Rattle.job.proofs.Held.{counts-16, counts-bytes, live-none, job-held, counts-few, shares-short}

@@ -6,8 +6,8 @@ use Prim.Native.Nat.{_≤_, _-_, _+_, _*_}
 use mathlib.Core.Path.{_≡_}
 use native.Mathlib.Omega.{arith}
 use lib.ListN.{length, take, drop}
-use Rattle.writer.specs.Writing.{total}
-use Rattle.writer.proofs.Given.{drop-live}
+use Rattle.framing.specs.Writing.{total}
+use Rattle.pieces.proofs.Given.{drop-live}
 use Rattle.job.specs.Job.{keyCounts}
 use Rattle.job.proofs.Held.{counts-16, counts-bytes, live-none}
 

@@ -3,7 +3,7 @@
 use borrow.Author.Needs.{needs}
 use Rattle.job.proofs.write_job.Statement.{statement}
 use Rattle.job.proofs.write_job.Tie as tie
-use Prim.Native.Nat.{_+_, _-_, _*_, _≤_}
+use Prim.Native.Nat.{_+_, _*_, _≤_}
 use mathlib.Core.Path.{_≡_, sym, ap, _∙_}
 use mathlib.Core.Bool.{true}
 use mathlib.Core.List.{map}
@@ -14,9 +14,9 @@ use borrow.Author.Tests.{le-leb, lt-leb, not-true, not-false}
 use Rattle.wire.specs.Bytes.{Bytes, joined}
 use Rattle.wire.proofs.Lists.{and-both}
 use Rattle.layout.specs.Encode.{shareBytes}
-use Rattle.writer.specs.Places.{rootOf}
-use Rattle.writer.proofs.Laws.{refused-7, refused-9, wrote}
-use Rattle.writer.proofs.Given.{length-rootOf}
+use Rattle.pieces.specs.Places.{rootOf}
+use Rattle.framing.proofs.Laws.{refused-7, refused-9, wrote}
+use Rattle.pieces.proofs.Given.{length-rootOf}
 use Rattle.job.specs.declared.JobList.the-variants.{KeyIds, Nonces}
 use Rattle.job.specs.Job.{signersIn, jobsHold, sharesOf, listBytes, shareLengths, writeJob}
 use Rattle.job.proofs.Held.{signers-hold, lists-short, all-few, all-short}

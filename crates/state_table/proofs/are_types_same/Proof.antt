@@ -3,7 +3,7 @@
 use borrow.Author.Needs.{needs}
 use Rattle.state_table.proofs.are_types_same.Statement.{statement}
 use Rattle.state_table.proofs.are_types_same.Tie as tie
-use mathlib.Core.Path.{_≡_, refl, sym, _∙_, ap, ap₂}
+use mathlib.Core.Path.{sym, _∙_, ap, ap₂}
 use Rattle.state_table.specs.declared.StateType.{StateType}
 use Rattle.state_table.specs.States.{typesAgree}
 

@@ -3,13 +3,12 @@
 use borrow.Author.Needs.{needs}
 use Rattle.state_table.proofs.can_move_to.Statement.{statement}
 use Rattle.state_table.proofs.can_move_to.Tie as tie
-use Prim.Native.Nat.{ℕ}
 use mathlib.Core.Path.{_≡_, sym, _∙_, ap₂}
 use mathlib.Core.Bool.{true, false}
 use native.Mathlib.Omega.{arith}
 use borrow.Author.Tests.{not-true, not-false}
 use Rattle.state_table.specs.declared.StateType.{StateType}
-use Rattle.state_table.specs.States.{position, stateNumber, typeIn, typesAgree}
+use Rattle.state_table.specs.States.{position, stateNumber, typesAgree}
 use Rattle.state_table.specs.Moves.{allowed}
 use Rattle.state_table.proofs.Table.{state-below, move-table}
 

@@ -12,7 +12,6 @@ use lib.ListN.{length, getD}
 use native.Mathlib.Omega.{arith}
 use borrow.Author.Tests.{eqb-true}
 use Rattle.wire.proofs.Lists.{and-left, and-right}
-use Rattle.wire.specs.Bytes.{sameBytes}
 use Rattle.state_table.specs.States.{same, sameType, typesAgree}
 use Rattle.state_table.specs.Moves.{accepted, canMoveTo, states, allowed}
 use Rattle.state_table.proofs.Lookup.{check, checked, beq-eq}

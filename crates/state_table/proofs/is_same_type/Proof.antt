@@ -3,11 +3,8 @@
 use borrow.Author.Needs.{needs}
 use Rattle.state_table.proofs.is_same_type.Statement.{statement}
 use Rattle.state_table.proofs.is_same_type.Tie as tie
-use mathlib.Core.Path.{_≡_, refl, sym, _∙_, ap}
-use mathlib.Core.Bool.{_&&_, cond, true}
-use lib.Dec.{eqb}
+use mathlib.Core.Path.{sym, _∙_}
 use borrow.Author.Tests.{eq-eqb, ne-eqb}
-use Rattle.wire.specs.Bytes.{sameBytes}
 use Rattle.layout.specs.Types.{typeNumber}
 use Rattle.state_table.specs.States.{sameType}
 

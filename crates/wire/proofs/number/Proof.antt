@@ -2,13 +2,13 @@
 -- Assumes nothing.
 use Rattle.wire.proofs.number.Statement.{statement}
 use Rattle.wire.proofs.number.Tie as tie
-use Prim.Native.Nat.{ℕ, suc, _≤_, _-_, _+_, _*_, _<_, _/_, _%_, _^_}
-use mathlib.Core.Path.{_≡_, refl, sym, _∙_, ap, subst}
+use Prim.Native.Nat.{ℕ, suc, _≤_, _-_, _+_, _*_, _<_, _^_}
+use mathlib.Core.Path.{_≡_}
 use mathlib.Core.List.{List}
 use native.Mathlib.Omega.{arith}
 use native.Mathlib.Nat.{pow-succ', pow-le-pow-right, sub-self}
 use borrow.Author.Needs.{needs}
-use lib.ListN.{length, getD, take, drop, drop-of-length-le, length-take}
+use lib.ListN.{getD, take, drop, drop-of-length-le, length-take}
 use lib.Seq.{getD-take}
 use Rattle.wire.specs.Bytes.{number}
 use Rattle.wire.proofs.Numbers.{number-drop}

@@ -4,9 +4,8 @@ use borrow.Author.Needs.{needs}
 use Rattle.wire.proofs.number_at.Statement.{statement}
 use Rattle.wire.proofs.number_at.Tie as tie
 use Prim.Native.Nat.{ℕ, _-_}
-use mathlib.Core.Path.{_≡_, refl, sym, _∙_, ap}
+use mathlib.Core.Path.{sym, _∙_, ap}
 use mathlib.Core.List.{List}
-use native.Mathlib.Omega.{arith}
 use native.Mathlib.Nat.{le-of-eq}
 use denote.Ref.{now}
 use lib.ListN.{length, take, drop, drop-of-length-le, length-drop}

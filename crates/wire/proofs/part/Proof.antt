@@ -4,7 +4,7 @@ use borrow.Author.Needs.{needs}
 use Rattle.wire.proofs.part.Statement.{statement}
 use Rattle.wire.proofs.part.Tie as tie
 use Prim.Native.Nat.{ℕ, _-_, _≤_}
-use mathlib.Core.Path.{_≡_, refl, sym, _∙_, ap}
+use mathlib.Core.Path.{_≡_, sym, _∙_, ap}
 use mathlib.Core.List.{List}
 use native.Mathlib.Omega.{arith}
 use native.Mathlib.Nat.{le-of-lt, add-sub-cancel-left}

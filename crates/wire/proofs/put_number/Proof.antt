@@ -2,12 +2,12 @@
 -- Assumes nothing.
 use Rattle.wire.proofs.put_number.Statement.{statement}
 use Rattle.wire.proofs.put_number.Tie as tie
-use Prim.Native.Nat.{ℕ, suc, _≤_, _-_, _+_, _<_, _/_, _%_}
-use mathlib.Core.Path.{_≡_, refl, sym, _∙_, ap, subst}
+use Prim.Native.Nat.{suc, _-_, _%_}
+use mathlib.Core.Path.{_≡_, refl, sym, _∙_}
 use native.Mathlib.Omega.{arith}
 use native.Mathlib.Numerals.{add-one}
 use borrow.Author.Needs.{needs}
-use lib.ListN.{length, getD, drop, length-set}
+use lib.ListN.{length, length-set}
 use Rattle.wire.specs.Bytes.{put, le}
 use Rattle.wire.proofs.Buffer.{put-out}
 

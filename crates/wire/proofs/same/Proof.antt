@@ -2,9 +2,9 @@
 -- Assumes nothing.
 use Rattle.wire.proofs.same.Statement.{statement}
 use Rattle.wire.proofs.same.Tie as tie
-use Prim.Native.Nat.{ℕ, suc, zero, _+_, _-_, _≤_, _<_}
+use Prim.Native.Nat.{ℕ, suc, _-_, _≤_, _<_}
 use mathlib.Core.Path.{_≡_, refl, sym, _∙_, ap}
-use mathlib.Core.Bool.{Bool, true, false, _&&_}
+use mathlib.Core.Bool.{true, false, _&&_}
 use mathlib.Core.List.{List, [], _∷_}
 use native.Mathlib.Omega.{arith}
 use native.Mathlib.Numerals.{add-one}
@@ -15,6 +15,7 @@ use lib.ListN.{length, getD, drop, drop-of-length-le}
 use lib.Seq.{drop-cons}
 use denote.Ref.{now}
 use Rattle.wire.specs.Bytes.{sameBytes}
+use Rattle.wire.proofs.Lists.{and-false}
 
 -- one byte on each side
 step : (a b : List ℕ) (i : ℕ) → i < length a → length a ≡ length b → sameBytes (drop i a) (drop i b) ≡ (eqb (getD a i 0) (getD b i 0) && sameBytes (drop (suc i) a) (drop (suc i) b))
@@ -27,11 +28,7 @@ unfolding sameBytes
 longer [] [] h = absurd (h refl)
 longer [] (y ∷ ys) h = refl
 longer (x ∷ xs) [] h = refl
-longer (x ∷ xs) (y ∷ ys) h = rw (← longer xs ys (λ e. h (ap suc e))) (and-false (eqb x y))
-  where
-    and-false : (t : Bool) → false ≡ (t && false)
-    and-false true = refl
-    and-false false = refl
+longer (x ∷ xs) (y ∷ ys) h = rw (← longer xs ys (λ e. h (ap suc e))) (sym (and-false (eqb x y)))
 
 -- two lists have come to their ends
 ended : (a b : List ℕ) (i : ℕ) → length a ≤ i → length a ≡ length b → true ≡ sameBytes (drop i a) (drop i b)

@@ -10,7 +10,7 @@ use borrow.Author.Needs.{needs}
 use Rattle.wire.specs.Bytes.{every}
 use Rattle.layout.specs.LaidOut.{partAt, partsFrom}
 use Rattle.packet.specs.Reading.{partTest}
-use Rattle.packet.proofs.Flags.{says-no, says-yes}
+use Rattle.frame.proofs.Flags.{says-no, says-yes}
 use Rattle.packet.proofs.Laws.{parts-step, parts-end}
 
 -- the first part of the rest, then those after it

@@ -12,7 +12,7 @@ use lib.Dec.{leb, eqb}
 use borrow.Author.Tests.{lt-leb, ne-eqb}
 use Rattle.layout.specs.LaidOut.{byKind, wholeRoot, wholeLists}
 use Rattle.packet.specs.Reading.{partTest}
-use Rattle.packet.proofs.Flags.{says-no, says-yes}
+use Rattle.frame.proofs.Flags.{says-no, says-yes}
 
 -- kinds 5, 6 and 7 have no lists, and there is none above
 late : (n : ℕ) (a₁ a₂ a₃ a₄ : Bool) → leb (5 + n) 7 ≡ byKind (5 + n) a₁ a₂ a₃ a₄ true true true false

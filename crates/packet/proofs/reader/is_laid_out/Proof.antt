@@ -4,7 +4,7 @@ use borrow.Author.Needs.{needs}
 use Rattle.packet.proofs.reader.is_laid_out.Statement.{statement}
 use Rattle.packet.proofs.reader.is_laid_out.Tie as tie
 use Rattle.layout.specs.LaidOut.{laidOut}
-use Rattle.packet.proofs.Flags.{says-no, says-yes}
+use Rattle.frame.proofs.Flags.{says-no, says-yes}
 
 is-framed-requires : tie.Need-is-framed-requires
 is-framed-requires c κs = search needs

@@ -5,7 +5,7 @@ use Rattle.packet.proofs.reader.is_response_laid_out.Statement.{stateme
 use Rattle.packet.proofs.reader.is_response_laid_out.Tie as tie
 use borrow.Author.Tests.{eq-eqb, ne-eqb}
 use Rattle.layout.specs.LaidOut.{responseLaidOut}
-use Rattle.packet.proofs.Flags.{says-no, says-yes}
+use Rattle.frame.proofs.Flags.{says-no, says-yes}
 
 is-framed-requires : tie.Need-is-framed-requires
 is-framed-requires c κs = search needs

@@ -5,7 +5,7 @@ use Rattle.packet.proofs.reader.is_response_within.Statement.{statement
 use Rattle.packet.proofs.reader.is_response_within.Tie as tie
 use borrow.Author.Tests.{lt-leb, le-leb}
 use Rattle.layout.specs.Decode.{responseIn, responseWithin}
-use Rattle.packet.proofs.Laws.{length-idsIn, length-noncesIn}
+use Rattle.layout.proofs.Entries.{length-idsIn, length-noncesIn}
 
 part-at-requires : tie.Need-part-at-requires
 part-at-requires c κs = search needs

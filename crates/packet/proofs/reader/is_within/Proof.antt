@@ -13,7 +13,7 @@ use lib.ListN.{length-map}
 use Rattle.layout.specs.Messages.{dkgBegin, dkgSigner, dkgCoordinator}
 use Rattle.layout.specs.Decode.{requestIn, shareRequestIn, shareResponseIn, messageIn, within}
 use Rattle.layout.proofs.Headed.{length-partsFrom}
-use Rattle.packet.proofs.Flags.{says-no, says-yes}
+use Rattle.frame.proofs.Flags.{says-no, says-yes}
 use Rattle.packet.proofs.Laws.{every-within}
 
 -- key-generation messages have no limits
@@ -48,6 +48,12 @@ returns-3 : tie.Need-returns-3
 unfolding within messageIn shareRequestIn
 returns-3 c = rw (← c .before .before .before .before .before .header .ensures, c .before .before .if3 .taken, says-no (c .before .is-message-within2 .ensures) (c .if4 .taken))
 
+add-if5 : tie.Need-add-if5
+add-if5 c = search needs
+
+cast-if5 : tie.Need-cast-if5
+cast-if5 c = search needs
+
 returns-4 : tie.Need-returns-4
 unfolding within messageIn shareRequestIn
 returns-4 c = let h = c .before .before .before .before .before .before .header in
@@ -61,6 +67,9 @@ unfolding within messageIn shareRequestIn
 returns-5 c = let h = c .before .before .before .before .before .before .before .header in
     rw (← h .ensures, c .before .before .before .before .if3 .taken, says-yes (c .before .before .before .is-message-within2 .ensures) (c .before .before .if4 .left), length-map, length-partsFrom, le-leb (h .result .pairs - 2) 10 (omega arith))
     (c .every-part .ensures ∙ every-within _)
+
+cast-if7 : tie.Need-cast-if7
+cast-if7 c = search needs
 
 returns-6 : tie.Need-returns-6
 unfolding within messageIn shareResponseIn
@@ -92,9 +101,12 @@ is-within-spec =
     returns-2
     is-message-within-requires-2
     returns-3
+    add-if5
+    cast-if5
     returns-4
     every-part-requires
     returns-5
+    cast-if7
     returns-6
     are-share-keys-within-requires
     returns-7

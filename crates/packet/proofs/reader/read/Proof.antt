@@ -9,7 +9,7 @@ use Rattle.layout.specs.Decode.{decode}
 use Rattle.layout.proofs.Headed.{header-messageIn}
 use Rattle.packet.specs.declared.reader.Reading.the-variants.{Packet}
 use Rattle.packet.specs.Reading.{reading}
-use Rattle.packet.proofs.Flags.{says-no, says-yes}
+use Rattle.frame.proofs.Flags.{says-no, says-yes}
 
 is-laid-out-requires : tie.Need-is-laid-out-requires
 is-laid-out-requires c κs = search needs

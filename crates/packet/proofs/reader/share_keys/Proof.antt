@@ -6,7 +6,7 @@ use Rattle.packet.proofs.reader.share_keys.Tie as tie
 use native.Mathlib.Omega.{arith}
 use lib.ListN.{length-drop}
 use Rattle.layout.specs.Decode.{shareIn}
-use Rattle.packet.proofs.Laws.{length-idsIn}
+use Rattle.layout.proofs.Entries.{length-idsIn}
 
 part-at-requires : tie.Need-part-at-requires
 part-at-requires c κs = search needs

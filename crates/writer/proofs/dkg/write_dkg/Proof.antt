@@ -8,7 +8,7 @@ use mathlib.Core.List.{[]}
 use native.Mathlib.Omega.{arith}
 use Rattle.wire.specs.Bytes.{joined}
 use Rattle.layout.proofs.Frame.{length-packet}
-use Rattle.writer.proofs.Laws.{refused-7, wrote, put-packet}
+use Rattle.framing.proofs.Laws.{refused-7, wrote, put-packet}
 
 returns : tie.Need-returns
 returns c = refused-7 _ _ _ (c .if1 .taken)

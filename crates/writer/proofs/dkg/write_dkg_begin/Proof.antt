@@ -5,7 +5,7 @@ use Rattle.writer.proofs.dkg.write_dkg_begin.Statement.{statement}
 use Rattle.writer.proofs.dkg.write_dkg_begin.Tie as tie
 use Rattle.layout.specs.Encode.{encode, header, parts}
 use Rattle.layout.specs.Decode.{within}
-use Rattle.writer.specs.Writing.{writeMessage}
+use Rattle.framing.specs.Writing.{writeMessage}
 
 write-dkg-requires : tie.Need-write-dkg-requires
 write-dkg-requires c κs = search needs

@@ -15,9 +15,9 @@ use Rattle.wire.proofs.Buffer.{length-put}
 use Rattle.layout.specs.Encode.{idBytes}
 use Rattle.layout.specs.declared.SignerId.{SignerId}
 use Rattle.layout.proofs.Entries.{length-idBytes}
-use Rattle.writer.specs.Places.{signerNumber, signersOf}
-use Rattle.writer.proofs.Laws.{put-field}
-use Rattle.writer.proofs.Given.{signers-10, drop-live}
+use Rattle.pieces.specs.Places.{signerNumber, signersOf}
+use Rattle.framing.proofs.Laws.{put-field}
+use Rattle.pieces.proofs.Given.{signers-10, drop-live}
 
 -- the id at i, then those after it
 next :

@@ -10,9 +10,10 @@ use native.Mathlib.Omega.{arith}
 use lib.ListN.{length}
 use borrow.Author.Tests.{le-leb, lt-leb}
 use Rattle.layout.specs.Encode.{idBytes, encodeInsufficientSigners}
-use Rattle.writer.specs.Writing.{total}
-use Rattle.writer.specs.Places.{signersOf, writeInsufficientSigners}
-use Rattle.writer.proofs.Laws.{refused-7, refused-9, wrote, put-packet, length-parts}
+use Rattle.framing.specs.Writing.{total}
+use Rattle.pieces.specs.Places.{signersOf}
+use Rattle.writer.specs.Results.{writeInsufficientSigners}
+use Rattle.framing.proofs.Laws.{refused-7, refused-9, wrote, put-packet, length-parts}
 
 returns : tie.Need-returns
 unfolding writeInsufficientSigners

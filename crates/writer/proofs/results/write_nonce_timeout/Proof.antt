@@ -11,9 +11,10 @@ use lib.ListN.{length}
 use borrow.Author.Tests.{le-leb, lt-leb}
 use Rattle.wire.proofs.Lists.{and-both}
 use Rattle.layout.specs.Encode.{idBytes, encodeNonceTimeout}
-use Rattle.writer.specs.Writing.{total}
-use Rattle.writer.specs.Places.{signersOf, writeNonceTimeout}
-use Rattle.writer.proofs.Laws.{refused-7, refused-9, wrote, put-packet, length-parts}
+use Rattle.framing.specs.Writing.{total}
+use Rattle.pieces.specs.Places.{signersOf}
+use Rattle.writer.specs.Results.{writeNonceTimeout}
+use Rattle.framing.proofs.Laws.{refused-7, refused-9, wrote, put-packet, length-parts}
 
 returns : tie.Need-returns
 unfolding writeNonceTimeout

@@ -1,0 +1,2 @@
+-- Laws of what a writer answers and leaves in the buffer.
+pub mod Laws

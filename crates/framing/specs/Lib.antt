@@ -1,0 +1,2 @@
+-- What a writer answers and leaves in the buffer.
+pub mod Writing

@@ -1,0 +1,2 @@
+-- What a packet that is taken says, part by part.
+pub mod Taken

@@ -1,0 +1,2 @@
+-- Laws of what a writer is given.
+pub mod Given

@@ -1,0 +1,88 @@
+-- `write_nested`: the lists at their places are the parts of the response.
+-- Assumes nothing.
+use borrow.Author.Needs.{needs}
+use Rattle.pieces.proofs.response.write_nested.Statement.{statement}
+use Rattle.pieces.proofs.response.write_nested.Tie as tie
+use Prim.Native.Nat.{ℕ, _-_}
+use mathlib.Core.Path.{_≡_, _∙_}
+use mathlib.Core.List.{List, _++_, append-nil}
+use native.Mathlib.Nat.{mul-one}
+use native.Mathlib.Omega.{arith}
+use denote.Ref.{now}
+use lib.ListN.{length, take, drop, length-take, length-drop, drop-of-length-le}
+use lib.Seq.{take-all}
+use Rattle.pieces.specs.Places.{bytesAt}
+use Rattle.pieces.proofs.Given.{response-held, encode-at}
+
+-- a part from `at` to the end: all that is there, and nothing lies behind it
+part-all : (at : ℕ) (l : List ℕ) → take (length l - at) (drop at l) ≡ drop at l
+part-all at l = take-all (length l - at) (drop at l) (rw length-drop (omega arith))
+
+part-back : (at : ℕ) (l ys : List ℕ) → take at l ++ (ys ++ drop (length l - at) (drop at l)) ≡ take at l ++ ys
+part-back at l ys = rw (drop-of-length-le (drop at l) {i = length l - at} (rw length-drop (omega arith)), append-nil)
+
+part-requires : tie.Need-part-requires
+part-requires c κs = search needs
+
+mul-part : tie.Need-mul-part
+mul-part c = omega (arith, response-held _ _ (c .before .before .before .before .before .before .before .pre .1) .key-ids .few)
+
+part-requires-2 : tie.Need-part-requires-2
+part-requires-2 c κs = search needs
+
+mul-part-2 : tie.Need-mul-part-2
+mul-part-2 c = omega (arith, response-held _ _ (c .before .before .before .before .before .before .before .before .before .pre .1) .nonces .few)
+
+part-requires-3 : tie.Need-part-requires-3
+part-requires-3 c κs = search needs
+
+sub-write-nonce-response : tie.Need-sub-write-nonce-response
+sub-write-nonce-response c = search needs
+
+part-write-nonce-response-start : tie.Need-part-write-nonce-response-start
+part-write-nonce-response-start c = search needs
+
+part-write-nonce-response-end : tie.Need-part-write-nonce-response-end
+part-write-nonce-response-end c = search needs
+
+write-nonce-response-requires : tie.Need-write-nonce-response-requires
+write-nonce-response-requires c κs =
+    let h = response-held _ _ (c .before .before .before .before .before .before .before .before .before .before .before .pre .1) in (
+      rw (c .before .before .before .before .before .part .ensures, length-take) (omega (arith, h .message .few)),
+      rw (c .before .before .before .part2 .ensures, length-take) (omega (arith, h .key-ids .few)),
+      rw (c .before .part3 .ensures, length-take) (omega (arith, h .nonces .few)),
+    )
+
+same-length : tie.Need-same-length
+same-length c = search needs
+
+returns : tie.Need-returns
+unfolding bytesAt
+returns c =
+    let known = c .before .before .before .before .before .before .before .before .before .before .before .before in
+    let a = known .before .before .args in
+    let out = now (a .out) in
+    let wrote = c .before .before .write-nonce-response in
+    let message = c .before .before .before .before .before .before .before .before .part .ensures in
+    let keys = c .before .before .before .before .before .before .part2 .ensures in
+    let nonces = c .before .before .before .before .part3 .ensures in
+    let code = encode-at (now (a .source)) (λ i. known .shared-slice-known .given i .fits) (a .p) (response-held _ _ (known .before .before .pre .1)) in (
+      rw (code, mul-one, wrote .ensures .0, part-all (a .at) out, length-drop (a .at) out, message, keys, nonces),
+      part-back (a .at) out (wrote .last .0) ∙ rw (code, mul-one, wrote .ensures .1, part-all (a .at) out, message, keys, nonces),
+    )
+
+pub write-nested-spec : {M : Type 1} → statement M
+write-nested-spec =
+    tie.close
+    (tie.spec
+    part-requires
+    mul-part
+    part-requires-2
+    mul-part-2
+    part-requires-3
+    sub-write-nonce-response
+    part-write-nonce-response-start
+    part-write-nonce-response-end
+    write-nonce-response-requires
+    same-length
+    returns)

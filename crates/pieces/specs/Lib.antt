@@ -1,0 +1,2 @@
+-- The messages that a writer's arguments say.
+pub mod Places

@@ -1,0 +1,2 @@
+-- What is written of a signature share request.
+pub mod Requests

@@ -1,3 +1,0 @@
--- Laws of the writers.
-pub mod Laws
-pub mod Given
