@@ -4,6 +4,8 @@
 The model below is written from document 01 ("Packet layout", questions 7 to 9, "The table of states") and shares no code with the
 crates. Run from the repository's root; both files are committed, so nothing needs this script to pass.
 """
+import re
+
 G = bytes.fromhex("0279BE667EF9DCBBAC55A06295CE870B07029BFCDB2DCE28D959F2815B16F81798")
 STORE = bytes((7 * i + i // 251) % 256 for i in range(52224))
 
@@ -157,6 +159,40 @@ def case(letter, label, args, answer):
 
 def r(label, s):
     case("R", label, tokens(s), read(s))
+
+
+def assemble(text):
+    """The bytes that tokens say, or the first fault in them."""
+    out, fault = b"", None
+    for token in text.split():
+        n, data, why = 1, b"", None
+        m = re.fullmatch(r"([0-9]+):([0-9]+)|(?:([0-9]+)\*)?([0-9a-f]+)", token)
+        if not m:
+            why = "a token is no byte and no number"
+        elif m[1]:
+            n, x = int(m[1]), int(m[2])
+            why = "a number does not fit its bytes" if not 1 <= n <= 8 or x >= 256 ** n else None
+            data = b"" if why else le(n, x)
+        else:
+            n = int(m[3] or 1)
+            why = "a number does not fit its bytes" if n >= 2 ** 64 or len(m[4]) > 2 else None
+            data = b"" if why or n > 32768 else bytes([int(m[4], 16)]) * n
+        if not why and len(out) + n > 32768:
+            why = "the case is longer than 32768 bytes"
+        fault = fault or why
+        out += b"" if why else data
+    return fault or out
+
+
+def told(label, text):
+    """A case of hand-written tokens: read as a packet, or not run."""
+    s = assemble(text)
+    case("R", label, text, "not run: " + s if isinstance(s, str) else read(s))
+
+
+def line(text, answer):
+    script.append(text)
+    expected.append(answer)
 
 
 def wrote(data, lent, refusal):
@@ -385,8 +421,30 @@ def main():
         move(prev, nxt, 3, 3, 1, 2, label="%s to %s of another root" % (prev, nxt))
         move(prev, nxt, 3, 3, 1, 1, label="%s to %s of the same root" % (prev, nxt))
         move(prev, nxt, 2, 2, 1, 2, label="%s to %s of type 2: the bytes beside are no root" % (prev, nxt))
-    text = "\n".join(script) + "\n"
-    assert len(text) <= 65536, len(text)
+    # what the program tells of a script that it cannot take
+    told("case of 32,768 bytes", "32768*00")
+    told("case of 32,769 bytes", "32769*00")
+    told("case of 32,768 bytes and a number", "32768*00 1:0")
+    told("case of 2^63 bytes", "9223372036854775808*00")
+    told("a byte no times, then a packet of kind 5", "0*ff 05 31*00")
+    told("numbers of every width, the largest each", " ".join("%d:%d" % (n, 256 ** n - 1) for n in range(1, 9)))
+    for n in range(1, 9):
+        told("%d bytes, one more than the largest" % n, "%d:%d" % (n, 256 ** n))
+    for token in ("0:0", "9:1", "100", "257*100", "99999999999999999999*00", "99999999999999999999:1"):
+        told("token %s" % token, token)
+    for token in ("4:5f", "4:", ":5", "*", "*00", "5*", "4:5:6", "2*3*4", "1f*00", "6g", "-1", "0x11", "6F", "00,00"):
+        told("no token %s" % token, "00 " + token + " 00")
+    told("the first fault is told", "1:256 zz 32769*00")
+    told("the first fault is told, another first", "zz 1:256 32769*00")
+    for letter in "XrA89":
+        line("%s letter %s | 00" % (letter, letter), "letter %s: not run: no case has this letter" % letter)
+    for n in (8192, 8193):
+        head = "R line of %d bytes |" % n
+        line(head + " " * (n - len(head)), "line of %d bytes: %s" % (n, read(b"") if n == 8192 else "not run: the line is longer than 8192 bytes"))
+    line("R a line without a bar", "a line without a bar: not run: the line has no bar")
+    line("", ": not run: the line has no bar")
+    r("the last line, without a newline", packet(7, [], ids=(7, 0, 0)))
+    text = "\n".join(script)
     open("crates/bench/stdin", "w").write(text)
     open("crates/bench/stdout", "w").write("\n".join(expected) + "\n")
     print(len(script), "cases,", len(text), "bytes")

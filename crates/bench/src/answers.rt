@@ -1,6 +1,7 @@
 // One case, by its letter: R a packet read, V nonces tested, K key lists compared, M a move asked, and the writers (writes.rt).
 use crate::lists;
 use crate::print;
+use crate::tokens;
 use crate::writes;
 use layout::Header;
 use layout::Ids;
@@ -86,8 +87,22 @@ fn moves(s: &[u8]) {
     yes_or_no(state_table::can_move_to(state_in(s), root_in(s), state_in(to), root_in(to)));
 }
 
+// The letters that name a case.
+pub fn is_letter(b: u8) -> bool {
+    match b {
+        b'R' | b'V' | b'K' | b'M' => true,
+        b'N' | b'S' | b'J' | b'T' | b'I' | b'5' | b'6' | b'7' => true,
+        _ => false,
+    }
+}
+
 // The case that a letter names.
-pub fn run(letter: u8, args: &[u8; 32768], n: usize, store: &[u8; layout::STORE_LENGTH]) {
+pub fn run(
+    letter: u8,
+    args: &[u8; tokens::CASE_LENGTH],
+    n: usize,
+    store: &[u8; layout::STORE_LENGTH],
+) {
     let s = wire::part(args, 0, n);
     match letter {
         b'R' => read(s),

@@ -2,8 +2,8 @@
 use borrow.Author.Needs.{needs}
 use Prim.Native.Nat.{_-_}
 use lib.ListN.{length}
-use Rattle.bench.proofs.lines.assemble.Statement.{statement}
-use Rattle.bench.proofs.lines.assemble.Tie as tie
+use Rattle.bench.proofs.tokens.assemble.Statement.{statement}
+use Rattle.bench.proofs.tokens.assemble.Tie as tie
 
 pub assemble-spec : {M : Type 1} → statement M
 assemble-spec =
@@ -18,4 +18,5 @@ assemble-spec =
     (λ c. search needs)
     (λ c. search needs)
     (λ c. search needs)
+    (λ c κs. search needs)
     (λ c. search needs))
