@@ -2,13 +2,13 @@
 // key ids and nonces 1,120 bytes apart from 256 on, share lists of 640 bytes from 45,824 on.
 use crate::answers;
 use crate::print;
+use body::RequestHead;
 use framing::Written;
 use job::JobPlace;
 use job::JobPlaces;
 use layout::Ids;
 use layout::SignerId;
 use pieces::places::Place;
-use pieces::places::RequestHead;
 use pieces::places::ResponsePlace;
 use pieces::places::ResponsePlaces;
 use pieces::places::SignerIds;

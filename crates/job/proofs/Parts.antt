@@ -12,9 +12,9 @@ use Rattle.wire.proofs.Buffer.{put-next}
 use Rattle.layout.specs.declared.Header.{Header}
 use Rattle.layout.specs.Types.{typeNumber}
 use Rattle.layout.specs.Encode.{headerBytes, headerOf, packet, shareBytes, encodeJob}
-use Rattle.pieces.specs.declared.places.RequestHead.{RequestHead}
+use Rattle.body.specs.declared.RequestHead.{RequestHead}
 use Rattle.framing.specs.Writing.{pairs, total}
-use Rattle.pieces.specs.Places.{rootOf}
+use Rattle.body.specs.Body.{rootOf}
 use Rattle.framing.proofs.Laws.{pairs-append, put-lots, length-parts}
 use Rattle.job.specs.declared.JobPlaces.{JobPlaces}
 use Rattle.job.specs.declared.JobList.the-variants.{KeyIds, Nonces}

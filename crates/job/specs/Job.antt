@@ -10,10 +10,11 @@ use Rattle.layout.specs.Messages.{Nonce, SignatureShare, Job}
 use Rattle.layout.specs.Encode.{encodeJob}
 use Rattle.layout.specs.Decode.{idsIn, noncesIn}
 use Rattle.layout.specs.Limits.{messageLimit, listLimit, signerLimit}
-use Rattle.pieces.specs.declared.places.RequestHead.{RequestHead}
+use Rattle.body.specs.declared.RequestHead.{RequestHead}
 use Rattle.pieces.specs.declared.places.Place.{Place}
 use Rattle.framing.specs.Writing.{Writing, writing, total}
-use Rattle.pieces.specs.Places.{rootOf, bytesAt, holds}
+use Rattle.body.specs.Body.{rootOf}
+use Rattle.pieces.specs.Places.{bytesAt, holds}
 use Rattle.job.specs.declared.JobPlace.{JobPlace}
 use Rattle.job.specs.declared.JobPlaces.{JobPlaces}
 use Rattle.job.specs.declared.JobList.{JobList}

@@ -10,16 +10,15 @@ ghost use Rattle.layout.specs.Limits.{messageLimit, listLimit};
 ghost use Rattle.layout.specs.Types.{typeNumber};
 ghost use Rattle.layout.specs.Encode.{headerBytes, headerOf, shareBytes};
 ghost use Rattle.framing.specs.Writing.{Wrote, pairs, total};
-ghost use Rattle.pieces.specs.Places.{rootOf};
+ghost use Rattle.body.specs.Body.{rootOf};
 ghost use Rattle.job.specs.declared.JobList.the-variants.{KeyIds, Nonces};
 ghost use Rattle.job.specs.Job.{keyCounts, jobHolds, jobsHold, signersIn, sharesAt, sharesOf, writeJob};
 ghost use Rattle.job.specs.Job.{listOf, listLength, listBytes, shareLengths};
+use body::RequestHead;
 use framing::Written;
 use layout::Header;
-use pieces::body;
 use pieces::places;
 use pieces::places::Place;
-use pieces::places::RequestHead;
 
 // Where a signer's lists lie: key ids (4 bytes each), nonces (66), shares (36: id and z_i), and the shares' key ids one after the
 // other, so many for each share.

@@ -1,4 +1,4 @@
--- Laws of what a writer is given: a root, the live entries of an array, places that hold.
+-- Laws of what a writer is given: the live entries of an array, places that hold.
 -- Assumes nothing.
 use Prim.Native.Nat.{ℕ, suc, _+_, _*_, _-_, _%_, _≤_, _<_}
 use mathlib.Core.Path.{_≡_, refl, ap, _∙_}
@@ -16,42 +16,25 @@ use borrow.Author.Tests.{leb-true}
 use Rattle.wire.specs.Bytes.{Bytes, joined, every}
 use Rattle.wire.proofs.Numbers.{bytes-take, bytes-drop}
 use Rattle.wire.proofs.Lists.{and-left, and-right, every-at}
-use Rattle.layout.specs.Types.{typeNumber, rootLength}
 use Rattle.layout.specs.Encode.{packet, headerOf, idBytes, nonceBytes, responseParts, encodeResponse}
 use Rattle.layout.specs.Decode.{idsIn, noncesIn}
 use Rattle.layout.proofs.Entries.{idBytes-idsIn, bytes-noncesIn}
-use Rattle.layout.proofs.Limits.{root-length}
-use Rattle.pieces.specs.declared.places.RequestHead.{RequestHead}
 use Rattle.pieces.specs.declared.places.Place.{Place}
 use Rattle.pieces.specs.declared.places.ResponsePlace.{ResponsePlace}
 use Rattle.pieces.specs.declared.places.ResponsePlaces.{ResponsePlaces}
 use Rattle.pieces.specs.declared.places.SignerIds.{SignerIds}
-use Rattle.pieces.proofs.places.RequestHead as Head
 use Rattle.pieces.proofs.places.ResponsePlaces as Places
 use Rattle.pieces.proofs.places.SignerIds as Signers
 use Rattle.framing.specs.Writing.{total}
-use Rattle.pieces.specs.Places.{rootOf, bytesAt, holds, responseHolds, responseAt, responseLength, placesOf, responsesHold}
+use Rattle.pieces.specs.Places.{bytesAt, holds, responseHolds, responseAt, responseLength, placesOf, responsesHold}
 use Rattle.framing.proofs.Laws.{length-parts}
 
 -- the lengths of the arrays, from what a struct's value is known to be
-pub root-32 : (h : RequestHead) (vs : List Val) → Is Head.the-row h vs → length (h .root) ≡ 32
-root-32 h vs g = rw length-map at (g .1 .1 .1 .1 .0 .1 .0 .1)
-
 pub places-10 : (ps : ResponsePlaces) (vs : List Val) → Is Places.the-row ps vs → length (ps .places) ≡ 10
 places-10 ps vs g = rw length-map at (g .1 .1 .0 .1 .0 .1)
 
 pub signers-10 : (s : SignerIds) (vs : List Val) → Is Signers.the-row s vs → length (s .ids) ≡ 10
 signers-10 s vs g = rw length-map at (g .1 .1 .0 .1 .0 .1)
-
--- a root of an array of 32
-pub root-whole : (h : RequestHead) → length (h .root) ≡ 32 → length (rootOf h) ≡ rootLength (typeNumber (h .«signature_type»))
-unfolding rootOf
-root-whole h e = length-take-le _ (h .root) (omega (arith, root-length (h .«signature_type»)))
-
--- a root is short
-pub length-rootOf : (h : RequestHead) → length (rootOf h) ≤ 32
-unfolding rootOf
-length-rootOf h = rw length-take (omega (arith, root-length (h .«signature_type»)))
 
 -- the live entries of an array, from i on
 pub drop-live :

@@ -6,22 +6,13 @@ use lib.Dec.{leb}
 use lib.ListN.{take, drop}
 use Rattle.wire.specs.Bytes.{every}
 use Rattle.layout.specs.declared.SignerId.{SignerId}
-use Rattle.layout.specs.Types.{typeNumber, rootLength}
-use Rattle.layout.specs.Messages.{NonceRequest, NonceResponse}
+use Rattle.layout.specs.Messages.{NonceResponse}
 use Rattle.layout.specs.Decode.{idsIn, noncesIn}
 use Rattle.layout.specs.Limits.{messageLimit, listLimit, signerLimit}
-use Rattle.pieces.specs.declared.places.RequestHead.{RequestHead}
 use Rattle.pieces.specs.declared.places.Place.{Place}
 use Rattle.pieces.specs.declared.places.ResponsePlace.{ResponsePlace}
 use Rattle.pieces.specs.declared.places.ResponsePlaces.{ResponsePlaces}
 use Rattle.pieces.specs.declared.places.SignerIds.{SignerIds}
-
--- the root's bytes: all 32 for type 3, else none
-unfoldable pub rootOf : RequestHead → List ℕ
-rootOf h = take (rootLength (typeNumber (h .«signature_type»))) (h .root)
-
-unfoldable pub requestOf : RequestHead → List ℕ → NonceRequest
-requestOf h message = record { ids = h .ids; message = message; signature-type = h .«signature_type»; root = rootOf h }
 
 -- the bytes of a list of entries of w bytes at its place
 unfoldable pub bytesAt : ℕ → Place → List ℕ → List ℕ

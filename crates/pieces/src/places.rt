@@ -3,14 +3,7 @@
 ghost use mathlib.Core.Path.{_≡_};
 ghost use Rattle.pieces.specs.Places.{holds, responseHolds, responsesHold};
 use layout::Ids;
-use layout::SignatureType;
 use layout::SignerId;
-
-pub struct RequestHead {
-    pub ids: Ids,
-    pub signature_type: SignatureType,
-    pub root: [u8; layout::ROOT_LENGTH],
-}
 
 pub struct Place {
     pub at: usize,

@@ -8,9 +8,10 @@ use Rattle.layout.specs.Messages.{SignatureShareRequest, signatureShareRequest}
 use Rattle.layout.specs.Encode.{encode}
 use Rattle.layout.specs.Limits.{messageLimit}
 use Rattle.framing.specs.Writing.{Writing, writing}
-use Rattle.pieces.specs.declared.places.RequestHead.{RequestHead}
+use Rattle.body.specs.declared.RequestHead.{RequestHead}
 use Rattle.pieces.specs.declared.places.ResponsePlaces.{ResponsePlaces}
-use Rattle.pieces.specs.Places.{rootOf, responseAt, placesOf, responsesHold}
+use Rattle.body.specs.Body.{rootOf}
+use Rattle.pieces.specs.Places.{responseAt, placesOf, responsesHold}
 
 unfoldable pub shareRequestOf : RequestHead → List ℕ → List ℕ → ResponsePlaces → SignatureShareRequest
 shareRequestOf h message source ps =

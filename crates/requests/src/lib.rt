@@ -10,13 +10,13 @@ ghost use Rattle.layout.specs.Messages.{nonceRequest};
 ghost use Rattle.layout.specs.Types.{typeNumber};
 ghost use Rattle.layout.specs.Encode.{headerBytes, headerOf, encodeResponse};
 ghost use Rattle.framing.specs.Writing.{Wrote, writeMessage, pairs, total};
-ghost use Rattle.pieces.specs.Places.{rootOf, requestOf, responseLength, responsesHold, responseAt, placesOf};
+ghost use Rattle.body.specs.Body.{rootOf, requestOf};
+ghost use Rattle.pieces.specs.Places.{responseLength, responsesHold, responseAt, placesOf};
 ghost use Rattle.requests.specs.Requests.{writeShareRequest};
+use body::RequestHead;
 use framing::Written;
 use layout::Header;
-use pieces::body;
 use pieces::places;
-use pieces::places::RequestHead;
 use pieces::places::ResponsePlaces;
 use pieces::response;
 

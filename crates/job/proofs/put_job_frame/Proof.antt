@@ -8,9 +8,9 @@ use mathlib.Core.List.{[], _∷_}
 use native.Mathlib.Omega.{arith}
 use lib.ListN.{length}
 use Rattle.layout.specs.Types.{rootLength}
-use Rattle.pieces.specs.Places.{rootOf}
+use Rattle.body.specs.Body.{rootOf}
 use Rattle.framing.proofs.Laws.{put-frame}
-use Rattle.pieces.proofs.Given.{root-32, root-whole, length-rootOf}
+use Rattle.body.proofs.Roots.{root-32, root-whole, length-rootOf}
 
 -- the root's length, of an array of 32
 root : (c : tie.After-root-length) → c .root-length .result ≡ length (rootOf (c .before .before .before .args .head))

@@ -14,9 +14,9 @@ use borrow.Author.Tests.{le-leb, lt-leb, not-true, not-false}
 use Rattle.wire.specs.Bytes.{Bytes, joined}
 use Rattle.wire.proofs.Lists.{and-both}
 use Rattle.layout.specs.Encode.{shareBytes}
-use Rattle.pieces.specs.Places.{rootOf}
+use Rattle.body.specs.Body.{rootOf}
 use Rattle.framing.proofs.Laws.{refused-7, refused-9, wrote}
-use Rattle.pieces.proofs.Given.{length-rootOf}
+use Rattle.body.proofs.Roots.{length-rootOf}
 use Rattle.job.specs.declared.JobList.the-variants.{KeyIds, Nonces}
 use Rattle.job.specs.Job.{signersIn, jobsHold, sharesOf, listBytes, shareLengths, writeJob}
 use Rattle.job.proofs.Held.{signers-hold, lists-short, all-few, all-short}

@@ -6,7 +6,7 @@ use Rattle.requests.proofs.put_request_frame.Tie as tie
 use mathlib.Core.List.{[], _∷_}
 use native.Mathlib.Omega.{arith}
 use Rattle.framing.proofs.Laws.{put-frame}
-use Rattle.pieces.proofs.Given.{length-rootOf}
+use Rattle.body.proofs.Roots.{length-rootOf}
 
 type-number-requires : tie.Need-type-number-requires
 type-number-requires c κs = search needs

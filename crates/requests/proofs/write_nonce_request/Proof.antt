@@ -12,9 +12,9 @@ use Rattle.wire.specs.Bytes.{joined, put}
 use Rattle.layout.specs.Decode.{within}
 use Rattle.layout.specs.Encode.{encode, header, parts}
 use Rattle.framing.specs.Writing.{writeMessage, pairs, total}
-use Rattle.pieces.specs.Places.{rootOf, requestOf}
+use Rattle.body.specs.Body.{rootOf, requestOf}
 use Rattle.framing.proofs.Laws.{refused-7, refused-9, wrote, put-request, length-request}
-use Rattle.pieces.proofs.Given.{length-rootOf}
+use Rattle.body.proofs.Roots.{length-rootOf}
 
 returns : tie.Need-returns
 unfolding writeMessage

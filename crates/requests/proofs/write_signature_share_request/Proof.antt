@@ -6,7 +6,7 @@ use Rattle.requests.proofs.write_signature_share_request.Tie as tie
 use Rattle.requests.proofs.write_signature_share_request.Reads as reads
 use Rattle.requests.proofs.write_signature_share_request.Lts as lts
 use Rattle.pieces.proofs.places.are_responses_held.Reads as are-responses-held-reads
-use Rattle.pieces.proofs.body.put_body.Reads as put-body-reads
+use Rattle.body.proofs.put_body.Reads as put-body-reads
 use Rattle.requests.proofs.put_request_frame.Reads as put-request-frame-reads
 use Rattle.requests.proofs.put_response_pairs.Reads as put-response-pairs-reads
 use Rattle.requests.proofs.put_responses.Reads as put-responses-reads
@@ -20,10 +20,12 @@ use lib.ListN.{length, length-map}
 use borrow.Author.Tests.{le-leb, lt-leb, not-true, not-false}
 use Rattle.wire.proofs.Lists.{and-both}
 use Rattle.layout.specs.Encode.{encodeResponse, encode, header, parts}
-use Rattle.pieces.specs.Places.{rootOf, responseAt, responseLength, placesOf, responsesHold}
+use Rattle.body.specs.Body.{rootOf}
+use Rattle.pieces.specs.Places.{responseAt, responseLength, placesOf, responsesHold}
 use Rattle.requests.specs.Requests.{shareRequestOf, writeShareRequest}
 use Rattle.framing.proofs.Laws.{refused-7, refused-9, wrote, put-request, length-request}
-use Rattle.pieces.proofs.Given.{places-10, length-rootOf, places-few, places-hold, places-short, length-placesOf, lengths-at}
+use Rattle.body.proofs.Roots.{length-rootOf}
+use Rattle.pieces.proofs.Given.{places-10, places-few, places-hold, places-short, length-placesOf, lengths-at}
 
 returns : tie.Need-returns
 unfolding writeShareRequest

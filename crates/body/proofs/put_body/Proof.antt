@@ -1,8 +1,8 @@
 -- `put_body`: the message, then the root.
 -- Assumes nothing.
 use borrow.Author.Needs.{needs}
-use Rattle.pieces.proofs.body.put_body.Statement.{statement}
-use Rattle.pieces.proofs.body.put_body.Tie as tie
+use Rattle.body.proofs.put_body.Statement.{statement}
+use Rattle.body.proofs.put_body.Tie as tie
 use Rattle.wire.proofs.Buffer.{put-put}
 
 copy-requires : tie.Need-copy-requires

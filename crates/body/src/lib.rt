@@ -1,12 +1,21 @@
-// The body that kinds 1, 3 and 32 share: the message, then the root.
+// What kinds 1, 3 and 32 share: the ids and the signature type, and the body, which is the message, then the root. It serves the crates
+// requests and job; a host names its type and calls none of its functions.
 ghost use mathlib.Core.Path.{_≡_};
 ghost use mathlib.Core.List.{_++_};
 ghost use Prim.Native.Nat.{_≤_};
 ghost use lib.ListN.{length, take};
 ghost use Rattle.wire.specs.Bytes.{put};
 ghost use Rattle.layout.specs.Limits.{messageLimit};
-ghost use Rattle.pieces.specs.Places.{rootOf};
-use crate::places::RequestHead;
+ghost use Rattle.body.specs.Body.{rootOf};
+use layout::Ids;
+use layout::SignatureType;
+
+// What kinds 1, 3 and 32 say besides their message and lists. The root counts for TaprootRoot alone.
+pub struct RequestHead {
+    pub ids: Ids,
+    pub signature_type: SignatureType,
+    pub root: [u8; layout::ROOT_LENGTH],
+}
 
 // How many of the 32 bytes are the head's root.
 pub fn root_size(head: RequestHead) -> usize

@@ -1,14 +1,14 @@
 -- `root_size`: the length of the type, of an array of 32.
 -- Assumes nothing.
 use borrow.Author.Needs.{needs}
-use Rattle.pieces.proofs.body.root_size.Statement.{statement}
-use Rattle.pieces.proofs.body.root_size.Tie as tie
+use Rattle.body.proofs.root_size.Statement.{statement}
+use Rattle.body.proofs.root_size.Tie as tie
 use Prim.Native.Nat.{ℕ}
 use mathlib.Core.Path.{_≡_, sym, ap, _∙_}
 use lib.ListN.{take}
 use Rattle.layout.specs.Types.{typeNumber, rootLength}
-use Rattle.pieces.specs.Places.{rootOf}
-use Rattle.pieces.proofs.Given.{root-32, root-whole}
+use Rattle.body.specs.Body.{rootOf}
+use Rattle.body.proofs.Roots.{root-32, root-whole}
 
 type-number-requires : tie.Need-type-number-requires
 type-number-requires c κs = search needs

@@ -1,8 +1,8 @@
 -- `put_root`: the first bytes of the array.
 -- Assumes nothing.
 use borrow.Author.Needs.{needs}
-use Rattle.pieces.proofs.body.put_root.Statement.{statement}
-use Rattle.pieces.proofs.body.put_root.Tie as tie
+use Rattle.body.proofs.put_root.Statement.{statement}
+use Rattle.body.proofs.put_root.Tie as tie
 use native.Mathlib.Omega.{arith}
 use lib.ListN.{length-take}
 

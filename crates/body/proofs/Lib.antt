@@ -1,0 +1,2 @@
+-- Laws of a head's root.
+pub mod Roots

@@ -1,0 +1,2 @@
+-- The root and the nonce request that a head says.
+pub mod Body
