@@ -436,6 +436,13 @@ def main():
         told("no token %s" % token, "00 " + token + " 00")
     told("the first fault is told", "1:256 zz 32769*00")
     told("the first fault is told, another first", "zz 1:256 32769*00")
+    for letter in "NSJTI567":
+        line("%s letter %s, buffer of 19,241 | 00 2:19241" % (letter, letter), "letter %s, buffer of 19,241: not run: no buffer is longer than 19240 bytes" % letter)
+    line("N type 4, written | 04 2:19232 2:5", "type 4, written: not run: no signature type is above 3")
+    line("M from state 15 | 0f 00 00 00 00 00", "from state 15: not run: no state is above 14")
+    line("M to state 15 | 00 00 00 0f 00 00", "to state 15: not run: no state is above 14")
+    line("M of type 4 | 0b 04 00 0c 00 00", "of type 4: not run: no signature type is above 3")
+    line("M to type 4 | 0b 00 00 0c 04 00", "to type 4: not run: no signature type is above 3")
     for letter in "XrA89":
         line("%s letter %s | 00" % (letter, letter), "letter %s: not run: no case has this letter" % letter)
     for n in (8192, 8193):

@@ -84,6 +84,14 @@ fn root_in(s: &[u8]) -> [u8; layout::ROOT_LENGTH] {
 // A move: the previous state's three bytes, then the next state's.
 fn moves(s: &[u8]) {
     let to = wire::part(s, 3, 3);
+    if 14 < wire::byte(s, 0) || 14 < wire::byte(to, 0) {
+        print::text(b"not run: no state is above 14");
+        return;
+    }
+    if 3 < wire::byte(s, 1) || 3 < wire::byte(to, 1) {
+        print::text(b"not run: no signature type is above 3");
+        return;
+    }
     yes_or_no(state_table::can_move_to(state_in(s), root_in(s), state_in(to), root_in(to)));
 }
 

@@ -171,9 +171,18 @@ fn show(w: Written, out: &[u8]) {
     }
 }
 
+// A buffer eight bytes longer than an answer needs, of which the case lends a part.
 pub fn run(letter: u8, s: &[u8], store: &[u8; layout::STORE_LENGTH]) {
     let mut out = [0xaau8; 19240];
-    let n = (wire::u16_at(s, 1) as usize) % 19241;
+    let n = wire::u16_at(s, 1) as usize;
+    if 19240 < n {
+        print::text(b"not run: no buffer is longer than 19240 bytes");
+        return;
+    }
+    if 3 < wire::byte(s, 0) {
+        print::text(b"not run: no signature type is above 3");
+        return;
+    }
     let part = &mut out[0..n];
     let w = write(letter, s, store, part);
     show(w, part);
