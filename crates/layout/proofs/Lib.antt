@@ -6,4 +6,5 @@ pub mod Response
 pub mod Said
 pub mod Written
 pub mod Limits
+pub mod Lengths
 pub mod RoundTrip

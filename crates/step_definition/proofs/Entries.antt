@@ -1,137 +1,170 @@
--- The log's entries: each passed its tests, they are the coordinator's records, and their different keys are those of the signers' key sets.
+-- The log's entries: each is from a signer as demand 3 says, they are the coordinator's records, and their different keys are those of the
+-- signers' key sets.
 -- Assumes nothing.
 use Prim.Native.Nat.{ℕ}
-use mathlib.Core.Path.{_≡_, refl, sym, ap, _∙_}
-use mathlib.Core.Bool.{Bool, true, false, _&&_, false≢true}
+use mathlib.Core.Path.{_≡_, refl, sym, ap}
+use mathlib.Core.Bool.{Bool, true, false, cond, false≢true}
 use mathlib.Core.List.{List, [], _∷_, map}
 use mathlib.Core.Option.{Option, some, none}
-use lib.Dec.{ltb}
 use lib.ListN.{length}
+use borrow.Author.Tests.{eqb-true, not-true}
 use Rattle.wire.specs.Bytes.{sameBytes, All}
+use Rattle.wire.proofs.Lists.{and-left, and-right}
+use Rattle.layout.specs.declared.Ids.{Ids}
 use Rattle.layout.specs.Messages.{NonceResponse}
 use Rattle.layout.specs.Decode.{decode}
 use Rattle.validity.specs.Keys.{sameSet}
-use Rattle.step_definition.specs.Configuration.{keySet}
-use Rattle.step_definition.specs.Coordinator.{SignRoundInfo, recordOf, insertResponse, addResponse}
-use Rattle.step_definition.specs.Calls.{Request, commission, setCoordinatorKey, setAggregateKey, takeResults, canMove, startSigning, process, processTimeout, processMessage, aggregated, reset, Call}
-use Rattle.step_definition.specs.Demand3.{pageOf}
-use Rattle.step_definition.specs.Effects.{keysIn, recvKeyIds}
+use Rattle.step_definition.specs.Lists.{isSome, given, find, change}
 use Rattle.step_definition.specs.Ids.{insertAll}
-use Rattle.step_definition.specs.Questions.{admitted, isRecord}
-use Rattle.step_definition.specs.ResponseLog.{Opened, Page, ResponseLog, entriesFor, hasPage, enter, sameIds, enters, responseIn, when, entryOf, entered, logged, allKeys, differentKeys, logAfter}
-use Rattle.step_definition.specs.Step.{responsesOf}
-use Rattle.step_definition.proofs.Cases.{cond-case, cond-both, cond-image}
-use Rattle.step_definition.proofs.Ascending.{insertAll-ascends, insertAll-same, insertAll-append}
+use Rattle.step_definition.specs.Configuration.{keysIn, keySet}
+use Rattle.step_definition.specs.Coordinator.{SignRoundInfo, recordOf, responsesOf, addResponse, responderId}
+use Rattle.step_definition.specs.Calls.{Entry, Call, Brought, aPacket, aStart, aKey, noMore, brought}
+use Rattle.step_definition.specs.Demand3.{pageOf, FromSigner, Ascending}
+use Rattle.step_definition.specs.Effects.{recvKeyIds}
+use Rattle.step_definition.specs.Questions.{admitted}
+use Rattle.step_definition.specs.ResponseLog.{Opened, Page, ResponseLog, entriesFor, hasPage, enter, sameIds, enters, responseIn, when, entryOf, logged, allKeys, differentKeys, logAfter}
+use Rattle.step_definition.proofs.Cases.{cond-case, cond-image}
+use Rattle.step_definition.proofs.Lists.{all-change, all-insert}
+use Rattle.step_definition.proofs.Ascending.{insert-ascends, insertAll-ascends, insertAll-same, insertAll-append, map-insertBy}
 
--- a test in a chain that passes has passed
-and-false : (a : Bool) → a && false ≡ false
-and-false true = refl
-and-false false = refl
+same-ids : (a b : Ids) → sameIds a b ≡ true → a ≡ b
+unfolding sameIds
+same-ids a b h =
+    let d : a .«dkg_id» ≡ b .«dkg_id» = eqb-true _ _ (search (and-left, and-right)) in
+    let s : a .«sign_id» ≡ b .«sign_id» = eqb-true _ _ (search (and-left, and-right)) in
+    let i : a .«sign_iter_id» ≡ b .«sign_iter_id» = eqb-true _ _ (search (and-left, and-right)) in
+    λ j. record { «dkg_id» = d j; «sign_id» = s j; «sign_iter_id» = i j }
 
-passed-test : (t x : Bool) → x ≡ true → (t ≡ false → x ≡ false) → t ≡ true
-passed-test true x e f = refl
-passed-test false x e f = absurd (false≢true (sym (f refl) ∙ e))
+is-some : {A : Type 0} (o : Option A) → isSome o ≡ true → (a : A) × (o ≡ some a)
+is-some none e = absurd (false≢true e)
+is-some (some a) e = (a, refl)
 
--- an entry that passed 16 to 18 and the silent tests
-abbrev pub Good : Opened → NonceResponse → Type 0
-Good o q = (admitted (o .config) (o .ended) (o .malicious) q ≡ true) × (sameIds (q .ids) (o .request .ids) ≡ true)
-
-abbrev pub GoodPages : Opened → List Page → Type 0
-GoodPages o ps = All (λ (p : Page). All (Good o) (p .entries)) ps
-
-abbrev GoodEntry : Opened → Option NonceResponse → Type 0
-GoodEntry o none = Unit {0}
-GoodEntry o (some q) = Good o q
-
--- What is entered passed, so every page is good.
 module _ (o : Opened) where
-  enters-good : (l : ResponseLog) (k : Call) (tests : Bool) (q : NonceResponse) → enters o l k tests q ≡ true → Good o q
+  -- a response as demand 3 says
+  abbrev pub Signed : NonceResponse → Type 0
+  Signed q = FromSigner (o .standing) (o .request .ids) q
+
+  -- 16 to 18 and the silent tests passed
+  pub signed :
+      (q : NonceResponse) → sameIds (q .ids) (o .request .ids) ≡ true
+      → admitted (o .standing .config) (o .standing .dkg-end-messages) (o .standing .malicious-signer-ids) q ≡ true → Signed q
+  unfolding admitted
+  signed q i a =
+      let entry = is-some (keySet (o .standing .config) (q .signer-id)) (search (and-left, and-right)) in
+      let exact : sameSet (q .key-ids) (keysIn (keySet (o .standing .config) (q .signer-id))) ≡ true = search (and-left, and-right) in
+      record {
+        configured = search (and-left, and-right);
+        key-generated = search (and-left, and-right);
+        not-malicious = not-true _ (search (and-left, and-right));
+        key-set = entry .0;
+        entry = entry .1;
+        exact = rw (entry .1) at exact;
+        ids = same-ids (q .ids) (o .request .ids) i;
+      }
+
+  -- What is entered is signed, and signers ascend on every page.
+  pub record GoodPage (p : Page) : Type 0 where
+    pub entries : All Signed (p .entries)
+    pub signers : Ascending (map responderId (p .entries))
+
+  abbrev pub GoodPages : List Page → Type 0
+  GoodPages ps = All GoodPage ps
+
+  enters-signed : (l : ResponseLog) (k : Call) (entry : Entry) (q : NonceResponse) → enters o l k entry q ≡ true → Signed q
   unfolding enters
-  enters-good l k tests q h = (passed-test (admitted (o .config) (o .ended) (o .malicious) q) _ h (λ e. simp (enters, e, and-false)), passed-test (sameIds (q .ids) (o .request .ids)) _ h (λ e. simp (enters, e, and-false)))
+  enters-signed l k entry q h = signed q (search (and-left, and-right)) (search (and-left, and-right))
 
-  when-good : (l : ResponseLog) (k : Call) (tests : Bool) (q : Option NonceResponse) → GoodEntry o (when (enters o l k tests) q)
-  unfolding when
-  when-good l k tests none = tt
-  when-good l k tests (some q) = cond-case (GoodEntry o) (enters o l k tests q) (λ e. enters-good l k tests q e) (λ e. tt)
+  -- the entry that a call makes
+  pub data GoodEntry : Option NonceResponse → Type 0 where
+    nothingEntered : GoodEntry none
+    isEntered : {q : NonceResponse} → Signed q → GoodEntry (some q)
 
-  entry-good : (l : ResponseLog) (k : Call) (r : Request) → GoodEntry o (entryOf o l k r)
+  entry-branch : {t : Bool} {a b : Option NonceResponse} → (t ≡ true → GoodEntry a) → (t ≡ false → GoodEntry b) → GoodEntry (cond t a b)
+  entry-branch {t = t} = cond-case GoodEntry t
+
+  when-good : (l : ResponseLog) (k : Call) (entry : Entry) (q : Option NonceResponse) → GoodEntry (when (enters o l k entry) q)
+  when-good l k entry none = nothingEntered
+  when-good l k entry (some q) = entry-branch (λ e. isEntered (enters-signed l k entry q e)) (λ e. nothingEntered)
+
+  pub entry-good : (l : ResponseLog) (k : Call) (b : Brought) → GoodEntry (entryOf o l k b)
   unfolding entryOf
-  entry-good l k (commission g) = tt
-  entry-good l k (setCoordinatorKey held) = tt
-  entry-good l k (setAggregateKey held) = tt
-  entry-good l k (takeResults dkg ended) = tt
-  entry-good l k (canMove s root) = tt
-  entry-good l k (startSigning s) = tt
-  entry-good l k (process bytes) = when-good l k true (responseIn (decode bytes))
-  entry-good l k processTimeout = tt
-  entry-good l k (processMessage bytes) = when-good l k false (responseIn (decode bytes))
-  entry-good l k (aggregated ok) = tt
-  entry-good l k reset = tt
+  entry-good l k (aPacket entry bytes) = when-good l k entry (responseIn (decode bytes))
+  entry-good l k (aStart s) = nothingEntered
+  entry-good l k (aKey which held) = nothingEntered
+  entry-good l k noMore = nothingEntered
 
-  insert-good : (q : NonceResponse) (qs : List NonceResponse) → Good o q → All (Good o) qs → All (Good o) (insertResponse q qs)
-  unfolding insertResponse
-  insert-good q [] g a = (g, tt)
-  insert-good q (p ∷ qs) g a = cond-both (All (Good o)) (ltb (q .signer-id) (p .signer-id)) (g, a) (a .0, insert-good q qs g (a .1))
+  pub enter-good : (q : NonceResponse) (ps : List Page) → Signed q → GoodPages ps → GoodPages (enter q ps)
+  enter-good q ps g a =
+      all-change GoodPage _ _ _ ps
+      (λ p h. record { entries = all-insert Signed responderId q (p .entries) g (h .entries); signers = rw map-insertBy (insert-ascends (q .signer-id) (map responderId (p .entries)) (h .signers)) })
+      (record { entries = (g, tt); signers = (tt, tt) }, tt)
+      a
 
-  enter-good : (q : NonceResponse) (ps : List Page) → Good o q → GoodPages o ps → GoodPages o (enter q ps)
-  unfolding enter
-  enter-good q [] g a = ((g, tt), tt)
-  enter-good q (p ∷ ps) g a = cond-both (GoodPages o) (sameBytes (q .message) (p .message)) (insert-good q (p .entries) g (a .0), a .1) (a .0, enter-good q ps g (a .1))
+  entered-good :
+      {q : Option NonceResponse} (ps : List Page) → GoodEntry q → GoodPages ps
+      → GoodPages (given q (λ (q : NonceResponse). enter q ps) ps)
+  entered-good ps nothingEntered a = a
+  entered-good ps (isEntered {q = q} g) a = enter-good q ps g a
 
-  entered-good : (q : Option NonceResponse) (ps : List Page) → GoodEntry o q → GoodPages o ps → GoodPages o (entered q ps)
-  unfolding entered
-  entered-good none ps g a = a
-  entered-good (some q) ps g a = enter-good q ps g a
-
-  pub logged-good : (l : ResponseLog) (k : Call) → GoodPages o (l .pages) → GoodPages o (logged o l k .pages)
+  pub logged-good : (l : ResponseLog) (k : Call) → GoodPages (l .pages) → GoodPages (logged o l k .pages)
   unfolding logged
-  logged-good l k a = entered-good (entryOf o l k (k .request)) (l .pages) (entry-good l k (k .request)) a
+  logged-good l k a = entered-good (l .pages) (entry-good l k (brought (k .request))) a
 
-  pub log-good : (ks : List Call) (l : ResponseLog) → GoodPages o (l .pages) → GoodPages o (logAfter o l ks .pages)
+  pub log-good : (ks : List Call) (l : ResponseLog) → GoodPages (l .pages) → GoodPages (logAfter o l ks .pages)
   unfolding logAfter
   log-good [] l a = a
   log-good (k ∷ ks) l a = log-good ks (logged o l k) (logged-good l k a)
 
-  entries-good : (m : List ℕ) (ps : List Page) → GoodPages o ps → All (Good o) (entriesFor m ps)
-  unfolding entriesFor
-  entries-good m [] a = tt
-  entries-good m (p ∷ ps) a = cond-both (All (Good o)) (sameBytes m (p .message)) (a .0) (entries-good m ps (a .1))
+  -- the entries for a message
+  pub entries-good : (m : List ℕ) (ps : List Page) → GoodPages ps → GoodPage (record { message = m; entries = entriesFor m ps })
+  unfolding find
+  entries-good m [] a = record { entries = tt; signers = tt }
+  entries-good m (p ∷ ps) a =
+      cond-case (λ (f : Option Page). GoodPage (record { message = m; entries = given f (λ (p : Page). p .entries) [] }))
+      (sameBytes m (p .message))
+      (λ e. record { entries = a .0 .entries; signers = a .0 .signers })
+      (λ e. entries-good m ps (a .1))
 
   -- the keys of entries, as listed and as configured
-  good-keys : (q : NonceResponse) → Good o q → sameSet (q .key-ids) (keysIn (keySet (o .config) (q .signer-id))) ≡ true
-  unfolding admitted
-  good-keys q g = passed-test (sameSet (q .key-ids) (keysIn (keySet (o .config) (q .signer-id)))) _ (g .0) (λ e. simp (admitted, e, and-false))
-
-  received-keys : (qs : List NonceResponse) → All (Good o) qs → recvKeyIds (o .config) qs ≡ insertAll (allKeys qs) []
+  received-keys : (qs : List NonceResponse) → All Signed qs → recvKeyIds (o .standing .config) qs ≡ insertAll (allKeys qs) []
   unfolding recvKeyIds allKeys insertAll
   received-keys [] a = refl
   received-keys (q ∷ qs) a =
-      rw (received-keys qs (a .1), insertAll-append)
-      (sym (insertAll-same (q .key-ids) (keysIn (keySet (o .config) (q .signer-id))) (insertAll (allKeys qs) []) (insertAll-ascends (allKeys qs) [] tt) (good-keys q (a .0))))
+      rw (a .0 .entry, received-keys qs (a .1), insertAll-append)
+      (sym (insertAll-same (q .key-ids) (a .0 .key-set) (insertAll (allKeys qs) []) (insertAll-ascends (allKeys qs) [] tt) (a .0 .exact)))
 
 -- the pages of the coordinator's records
 abbrev pub pagesOf : List SignRoundInfo → List Page
 pagesOf rs = map pageOf rs
 
-pub has-page : (m : List ℕ) (rs : List SignRoundInfo) → hasPage m (pagesOf rs) ≡ isRecord (recordOf m rs)
-unfolding hasPage recordOf isRecord
+pub has-page : (m : List ℕ) (rs : List SignRoundInfo) → hasPage m (pagesOf rs) ≡ isSome (recordOf m rs)
+unfolding find
 has-page m [] = refl
-has-page m (r ∷ rs) = cond-image isRecord (sameBytes m (r .message)) refl (has-page m rs)
+has-page m (r ∷ rs) =
+    cond-case (λ (f : Option Page). isSome f ≡ isSome (recordOf m (r ∷ rs))) (sameBytes m (r .message))
+    (λ e. rw e)
+    (λ e. rw e (has-page m rs))
 
 pub entries-for : (m : List ℕ) (rs : List SignRoundInfo) → entriesFor m (pagesOf rs) ≡ responsesOf (recordOf m rs)
-unfolding entriesFor recordOf responsesOf
+unfolding find
 entries-for m [] = refl
-entries-for m (r ∷ rs) = cond-image responsesOf (sameBytes m (r .message)) refl (entries-for m rs)
+entries-for m (r ∷ rs) =
+    cond-case (λ (f : Option Page). given f (λ (p : Page). p .entries) [] ≡ responsesOf (recordOf m (r ∷ rs))) (sameBytes m (r .message))
+    (λ e. rw e)
+    (λ e. rw e (entries-for m rs))
 
 pub entered-record : (q : NonceResponse) (rs : List SignRoundInfo) → enter q (pagesOf rs) ≡ pagesOf (addResponse q rs)
-unfolding enter addResponse
+unfolding change
 entered-record q [] = refl
-entered-record q (r ∷ rs) = cond-image pagesOf (sameBytes (q .message) (r .message)) refl (ap (λ (ps : List Page). record { message = r .message; entries = r .public-nonces } ∷ ps) (entered-record q rs))
+entered-record q (r ∷ rs) =
+    cond-image pagesOf (sameBytes (q .message) (r .message)) refl (ap (λ (ps : List Page). pageOf r ∷ ps) (entered-record q rs))
 
 -- once q is entered, the keys of its message's entries are as many by either count
-pub keys-entered : (o : Opened) (q : NonceResponse) (rs : List SignRoundInfo) → Good o q → GoodPages o (pagesOf rs) → differentKeys (responsesOf (recordOf (q .message) (addResponse q rs))) ≡ length (recvKeyIds (o .config) (responsesOf (recordOf (q .message) (addResponse q rs))))
+pub keys-entered :
+    (o : Opened) (q : NonceResponse) (rs : List SignRoundInfo) → Signed o q → GoodPages o (pagesOf rs)
+    → differentKeys (responsesOf (recordOf (q .message) (addResponse q rs))) ≡ length (recvKeyIds (o .standing .config) (responsesOf (recordOf (q .message) (addResponse q rs))))
 unfolding differentKeys
 keys-entered o q rs g a =
     let ps : GoodPages o (pagesOf (addResponse q rs)) = rw entered-record at (enter-good o q (pagesOf rs) g a) in
-    let qs : All (Good o) (responsesOf (recordOf (q .message) (addResponse q rs))) = rw entries-for at (entries-good o (q .message) (pagesOf (addResponse q rs)) ps) in
+    let qs : All (Signed o) (responsesOf (recordOf (q .message) (addResponse q rs))) = rw entries-for at (entries-good o (q .message) (pagesOf (addResponse q rs)) ps .entries) in
     ap length (sym (received-keys o _ qs))

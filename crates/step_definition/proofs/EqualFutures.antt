@@ -1,26 +1,30 @@
--- Demand 3, first half: two coordinators, whatever went before, that send the same nonce request at the same clock reading and agree on the four
--- things answer alike from then on, over every list of calls.
+-- Demand 3, first half: two coordinators, whatever went before, that send the same nonce request at the same clock reading and agree on
+-- the four things answer alike from then on, over every list of calls.
 -- Assumes nothing.
 use Prim.Native.Nat.{ℕ}
 use mathlib.Core.Path.{_≡_, refl, sym, ap, _∙_}
-use mathlib.Core.Bool.{Bool, true, false, cond, _||_, false≢true}
+use mathlib.Core.Bool.{Bool, true, false, cond, false≢true}
 use mathlib.Core.List.{List, [], _∷_}
 use mathlib.Core.Option.{Option, some, none}
-use lib.Dec.{eqb, leb, ltb}
-use lib.ListN.{length}
+use Rattle.layout.specs.declared.SignatureType.{SignatureType}
 use Rattle.layout.specs.Messages.{NonceRequest, NonceResponse, Message}
-use Rattle.layout.specs.Decode.{Decoded, decode}
-use Rattle.state_table.specs.Moves.{canMoveTo}
-use Rattle.step_definition.specs.Coordinator.{Coordinator, SignerShares, Held, commissioned, recordOf, responded}
-use Rattle.step_definition.specs.Effects.{recvKeyIds}
-use Rattle.step_definition.specs.Calls.{Request, commission, setCoordinatorKey, setAggregateKey, takeResults, canMove, startSigning, process, processTimeout, processMessage, aggregated, reset, Start, Call, Answer, Event, Outcome, outcome}
+use Rattle.layout.specs.Decode.{Decoded, taken, refused, decode}
+use Rattle.step_definition.specs.Lists.{given}
+use Rattle.step_definition.specs.Coordinator.{Coordinator, SignerShares, Held, commissioned, withShares, withClocks}
+use Rattle.step_definition.specs.Calls.{Start, Entry, process, processMessage, Request, commission, other, Call}
+use Rattle.step_definition.specs.Calls.{Operation, setKey, takeResults, canMove, startSigning, receive, processTimeout, aggregated, reset}
+use Rattle.step_definition.specs.Calls.{Answer, Event, Outcome, outcome}
 use Rattle.step_definition.specs.Demand3.{Opens, SameFour}
+use Rattle.step_definition.specs.Effects.{recording}
+use Rattle.step_definition.specs.Phases.{Phase, idling, gatheringNonces, gatheringShares, resting, phaseOf}
+use Rattle.step_definition.specs.Phases.{Content, aNonceRequest, aNonceResponse, aShareResponse, aDkgBegin, unheard, contentOf, nonceResponseIn}
+use Rattle.step_definition.specs.Questions.{before, question5, question6, question10, question11, question12, question13, question15, question19, question24, question25}
 use Rattle.step_definition.specs.Run.{Seen, maliciousIn, run}
-use Rattle.step_definition.specs.Questions.{isRecord, question5, question6, question9, question10, question11, question12, question13, question14, question19, question24, question25, admitted, fires}
-use Rattle.step_definition.specs.Step.{startRound, nonceTimeout, timeout, timeoutIn, recordResponse, gatherNonces, onResponse, messageIn, onMessage, orElse, withPacket, onResults, own, asks, before, onHeld, step}
-use Rattle.step_definition.proofs.StepCases.{step-case, unless-case, packet-case, response-case}
-use Rattle.step_definition.proofs.Leaves.{a-job, opening}
-use Rattle.step_definition.proofs.Gathering.{Gathering, gathering, freshly, freshly-gathers}
+use Rattle.step_definition.specs.Starts.{startRound, idleRequest, idle}
+use Rattle.step_definition.specs.Timeouts.{nonceTimeout, timeoutIn}
+use Rattle.step_definition.specs.NonceGather.{NonceVerdict, wrongId, ignored, noRoom, records, nonceVerdict, RecordVerdict, tooFew, noGroupKey, suffices, recordVerdict, onRecord, onNonces}
+use Rattle.step_definition.specs.Step.{messageIn, onMessage, onEntry, onPacket, onAggregated, onResults, own, onHeld, stepOf}
+use Rattle.step_definition.proofs.Leaves.{Fresh, opening}
 
 -- what a host sees of an outcome and of the calls after it
 abbrev seen : List Call → Outcome → List Seen
@@ -31,98 +35,176 @@ record Alike (ks : List Call) (o o′ : Outcome) : Type 0 where
   told : seen ks o ≡ seen ks o′
 
 -- the same test on both sides; the same outcome
-alike : {ks : List Call} (t : Bool) {a b a′ b′ : Outcome} → Alike ks a a′ → Alike ks b b′ → Alike ks (cond t a b) (cond t a′ b′)
-alike true p q = p
-alike false p q = q
+alike :
+    {ks : List Call} {t : Bool} {a b a′ b′ : Outcome} → (t ≡ true → Alike ks a a′) → (t ≡ false → Alike ks b b′)
+    → Alike ks (cond t a b) (cond t a′ b′)
+alike {t = true} p q = p refl
+alike {t = false} p q = q refl
 
 equal : {ks : List Call} {o : Outcome} → Alike ks o o
 equal = record { told = refl }
 
--- Where the coordinators still differ in the shares and the share clock alone, the later calls see no difference.
-module _ (ss ss′ : List SignerShares) (start start′ : Option ℕ) (ks : List Call) (later : (w : Gathering) → run ks (commissioned (gathering w ss start)) ≡ run ks (commissioned (gathering w ss′ start′))) where
-  kept : {a : Answer} {es : List Event} {w : Gathering} → Alike ks (outcome a es (commissioned (gathering w ss start))) (outcome a es (commissioned (gathering w ss′ start′)))
+-- c with other shares and another share clock
+abbrev withOther : List SignerShares → Option ℕ → Coordinator → Coordinator
+withOther ss start c = withShares ss (withClocks (record { nonce-start = c .round .clocks .nonce-start; sign-start = start }) c)
+
+-- but while shares are gathered, nobody looks at them
+abbrev unread : Phase → Bool
+unread idling = true
+unread (gatheringNonces t) = true
+unread (gatheringShares t) = false
+unread resting = true
+
+abbrev Unread : Coordinator → Type 0
+Unread c = unread (phaseOf (c .position .state)) ≡ true
+
+-- Where nobody looks at the shares and the share clock, and the later calls see no difference.
+module _ (ss : List SignerShares) (start : Option ℕ) (ks : List Call)
+    (later : (c : Coordinator) → Unread c → run ks (commissioned c) ≡ run ks (commissioned (withOther ss start c))) where
+  kept :
+      {a : Answer} {es : List Event} {c : Coordinator} → Unread c
+      → Alike ks (outcome a es (commissioned c)) (outcome a es (commissioned (withOther ss start c)))
   unfolding maliciousIn
-  kept {a} {es} {w} = record { told = ap (λ (l : List Seen). record { answer = a; malicious = w .malicious } ∷ l) (later w) }
+  kept {a} {es} {c} u =
+      record { told = ap (λ (l : List Seen). record { answer = a; malicious = c .standing .malicious-signer-ids } ∷ l) (later c u) }
 
   -- a function of the coordinator that neither is told apart by
-  abbrev Both : (Coordinator → Outcome) → Type 0
-  Both f = (w : Gathering) → Alike ks (f (gathering w ss start)) (f (gathering w ss′ start′))
+  abbrev Both : Coordinator → (Coordinator → Outcome) → Type 0
+  Both c f = Alike ks (f c) (f (withOther ss start c))
 
-  -- what each call does, by the questions that it asks
-  starts : (now : ℕ) (s : Start) → Both (startRound now s)
+  -- what each call does
+  starts : (now : ℕ) (s : Start) (c : Coordinator) → Unread c → Both c (startRound now s)
   unfolding startRound question10 question11
-  starts now s w = alike (w .keys .aggregate-public-key) (alike (canMoveTo _ _) kept kept) kept
+  starts now s c u = search (alike, kept)
 
-  nonces-late : Both nonceTimeout
+  idles : (now : ℕ) (m : Content) (c : Coordinator) → Unread c → Both c (idle now m)
+  unfolding idle idleRequest question15
+  idles now (aNonceRequest r) c u = search (alike, kept, starts)
+  idles now (aNonceResponse q) c u = kept u
+  idles now (aShareResponse r) c u = kept u
+  idles now (aDkgBegin dkg) c u = search (alike, kept)
+  idles now unheard c u = kept u
+
+  nonces-late : (c : Coordinator) → Unread c → Both c nonceTimeout
   unfolding nonceTimeout question12
-  nonces-late w = alike (isRecord _) kept kept
+  nonces-late c u = search (alike, kept)
 
-  late : (t : Bool) {a a′ b b′ : Outcome} → Alike ks a a′ → Alike ks b b′ → Alike ks (orElse (cond t (some a) none) b) (orElse (cond t (some a′) none) b′)
-  unfolding orElse
-  late true p q = p
-  late false p q = q
+  late :
+      {t : Bool} {a a′ b b′ : Outcome} → (t ≡ true → Alike ks a a′) → Alike ks b b′
+      → Alike ks (given (cond t (some a) none) (λ (o : Outcome). o) b) (given (cond t (some a′) none) (λ (o : Outcome). o) b′)
+  late {t = true} p q = p refl
+  late {t = false} p q = q
 
-  gathers : (now : ℕ) (q : NonceResponse) (w : Gathering) → Alike ks (gatherNonces now (w .signature-type) (w .root) q (gathering w ss start)) (gatherNonces now (w .signature-type) (w .root) q (gathering w ss′ start′))
-  unfolding gatherNonces recordResponse question10 question19
-  gathers now q w =
-      alike (eqb (q .ids .«dkg_id») (w .ids .«dkg_id»))
-      (alike (eqb (q .ids .«sign_id») (w .ids .«sign_id»))
-      (alike (eqb (q .ids .«sign_iter_id») (w .ids .«sign_iter_id»))
-      (alike (admitted _ _ _ _)
-      (alike (isRecord (recordOf (q .message) (w .records)) || ltb (length (w .records)) 4)
-      (alike (responded _ _) kept (alike (leb (w .config .sign-threshold) (length (recvKeyIds _ _))) (alike (w .keys .aggregate-public-key) equal kept) kept))
-      kept)
-      kept)
-      kept)
-      kept)
-      kept
+  unless-late :
+      (now : ℕ) (p : Phase) (c : Coordinator) (rest rest′ : Outcome) → unread p ≡ true → Unread c → Alike ks rest rest′
+      → Alike ks (given (timeoutIn now p c) (λ (o : Outcome). o) rest) (given (timeoutIn now p (withOther ss start c)) (λ (o : Outcome). o) rest′)
+  unfolding timeoutIn
+  unless-late now idling c rest rest′ e u r = r
+  unless-late now (gatheringNonces t) c rest rest′ e u r = search (late, nonces-late)
+  unless-late now (gatheringShares t) c rest rest′ e u r = absurd (false≢true e)
+  unless-late now resting c rest rest′ e u r = r
 
-  on-message : (now : ℕ) (verdict : Bool) (m : Message) → Both (onMessage now verdict m)
-  unfolding onMessage messageIn question13
-  on-message now verdict m w =
-      let r : Alike ks (onResponse now (w .signature-type) (w .root) m (gathering w ss start)) (onResponse now (w .signature-type) (w .root) m (gathering w ss′ start′)) =
-      response-case (λ (f : Coordinator → Outcome). Alike ks (f (gathering w ss start)) (f (gathering w ss′ start′))) now (w .signature-type) (w .root) m kept (λ q. gathers now q w) in
-      alike (w .config .verify-packet-sigs) (alike (w .keys .coordinator-public-key) (alike (question14 _ _ _) r kept) kept) r
+  records-alike :
+      (now : ℕ) (t : SignatureType) (q : NonceResponse) (v : RecordVerdict) (c : Coordinator) → Unread c
+      → Both c (λ (c : Coordinator). onRecord now t (c .position .root) q (recording q c) v)
+  unfolding onRecord
+  records-alike now t q tooFew c u = kept u
+  records-alike now t q noGroupKey c u = kept u
+  records-alike now t q suffices c u = equal
 
-  unpacked : (d : Decoded) (f : Message → Coordinator → Outcome) → ((m : Message) → Both (f m)) → Both (λ c. withPacket d (λ m. f m c) c)
-  unpacked d f l w = packet-case (λ (g : (Message → Outcome) → Coordinator → Outcome). Alike ks (g (λ m. f m (gathering w ss start)) (gathering w ss start)) (g (λ m. f m (gathering w ss′ start′)) (gathering w ss′ start′))) d (λ m. l m w) (λ n. kept)
+  gathers :
+      (now : ℕ) (t : SignatureType) (q : NonceResponse) (v : NonceVerdict) (c : Coordinator) → Unread c
+      → Both c (λ (c : Coordinator). onNonces now t (c .position .root) q c v)
+  unfolding onNonces recordVerdict question10
+  gathers now t q (wrongId n got expected) c u = kept u
+  gathers now t q ignored c u = kept u
+  gathers now t q noRoom c u = kept u
+  gathers now t q records c u = records-alike now t q (recordVerdict q (recording q c)) c u
 
-  owns : (k : Call) (r : Request) → (asks r .a-job ≡ true → false ≡ true) → Both (own k r)
-  unfolding own asks onResults question24 question25 timeoutIn
-  owns k (commission g) j w = kept
-  owns k (setCoordinatorKey held) j w = kept
-  owns k (setAggregateKey held) j w = kept
-  owns k (takeResults dkg ended) j w = kept
-  owns k (canMove s root) j w = kept
-  owns k (startSigning s) j w = alike (question9 _) (starts (k .clock) s w) kept
-  owns k (process bytes) j w = unpacked (decode bytes) (λ m c. orElse (timeout (k .clock) c) (onMessage (k .clock) (k .verdict) m c)) (λ m w. late (fires _ _ _) (nonces-late w) (on-message (k .clock) (k .verdict) m w)) w
-  owns k processTimeout j w = late (fires _ _ _) (nonces-late w) kept
-  owns k (processMessage bytes) j w = unpacked (decode bytes) (λ m. onMessage (k .clock) (k .verdict) m) (on-message (k .clock) (k .verdict)) w
-  owns k (aggregated ok) j w = absurd (false≢true (j refl))
-  owns k reset j w = equal
+  heard :
+      {A : Type 0} (o : Option A) {f f′ : A → Outcome} {b b′ : Outcome} → ((a : A) → Alike ks (f a) (f′ a)) → Alike ks b b′
+      → Alike ks (given o f b) (given o f′ b′)
+  heard none p q = q
+  heard (some a) p q = p a
 
-  on-held : (k : Call) (w : Gathering) → Alike ks (onHeld k (commissioned (gathering w ss start))) (onHeld k (commissioned (gathering w ss′ start′)))
+  by-phase : (now : ℕ) (p : Phase) (m : Content) (c : Coordinator) → unread p ≡ true → Unread c → Both c (messageIn now p m)
+  unfolding messageIn nonceVerdict question19
+  by-phase now idling m c e u = idles now m c u
+  by-phase now (gatheringNonces t) m c e u = heard (nonceResponseIn m) (λ q. gathers now t q (nonceVerdict q c) c u) (kept u)
+  by-phase now (gatheringShares t) m c e u = absurd (false≢true e)
+  by-phase now resting m c e u = kept u
+
+  module _ (k : Call) (c : Coordinator) (u : Unread c) where
+    on-message : (m : Message) → Both c (onMessage (k .clock) (k .verdict) m)
+    unfolding onMessage question13
+    on-message m = let rest = by-phase (k .clock) (phaseOf (c .position .state)) (contentOf m) c u u in search (alike, kept)
+
+    on-entry : (entry : Entry) (m : Message) → Both c (onEntry entry (k .clock) (k .verdict) m)
+    on-entry process m = unless-late (k .clock) (phaseOf (c .position .state)) c _ _ u u (on-message m)
+    on-entry processMessage m = on-message m
+
+    on-packet : (entry : Entry) (d : Decoded) → Both c (onPacket entry (k .clock) (k .verdict) d)
+    unfolding onPacket
+    on-packet entry (taken m) = on-entry entry m
+    on-packet entry (refused n) = kept u
+
+    owns : (o : Operation) → Both c (own k o)
+    unfolding own onResults onAggregated question24 question25
+    owns (setKey which held) = kept u
+    owns (takeResults dkg ended) = search (alike, kept)
+    owns (canMove p) = kept u
+    owns (startSigning s) = search (alike, kept, starts)
+    owns (receive entry bytes) = on-packet entry (decode bytes)
+    owns processTimeout = unless-late (k .clock) (phaseOf (c .position .state)) c _ _ u u (kept u)
+    owns (aggregated ok) = search (alike, kept)
+    owns reset = equal
+
+  on-held :
+      (k : Call) (o : Operation) (c : Coordinator) → Unread c
+      → Alike ks (onHeld k o (commissioned c)) (onHeld k o (commissioned (withOther ss start c)))
   unfolding onHeld before question5 question6
-  on-held k w =
-      let c : Coordinator = gathering w ss start in
-      let c′ : Coordinator = gathering w ss′ start′ in
-      unless-case (λ (f : Coordinator → Outcome → Outcome). Alike ks (f c (own k (k .request) c)) (f c′ (own k (k .request) c′))) (before k c) (λ n. kept) (λ e. owns k (k .request) (a-job k c e) w)
+  on-held k o c u = heard (before k o c) (λ n. kept u) (owns k c u o)
 
-  steps : (k : Call) (w : Gathering) → Alike ks (step k (commissioned (gathering w ss start))) (step k (commissioned (gathering w ss′ start′)))
-  unfolding step
-  steps k w = step-case (λ (f : Held → Outcome). Alike ks (f (commissioned (gathering w ss start))) (f (commissioned (gathering w ss′ start′)))) k (k .request) (λ g. equal) (on-held k w)
+  steps :
+      (k : Call) (r : Request) (c : Coordinator) → Unread c
+      → Alike ks (stepOf k r (commissioned c)) (stepOf k r (commissioned (withOther ss start c)))
+  unfolding stepOf
+  steps k (commission g) c u = equal
+  steps k (other o) c u = on-held k o c u
 
 -- over every list of calls
-run-alike : (ss ss′ : List SignerShares) (start start′ : Option ℕ) (ks : List Call) (w : Gathering) → run ks (commissioned (gathering w ss start)) ≡ run ks (commissioned (gathering w ss′ start′))
+run-alike :
+    (ss : List SignerShares) (start : Option ℕ) (ks : List Call) (c : Coordinator) → Unread c
+    → run ks (commissioned c) ≡ run ks (commissioned (withOther ss start c))
 unfolding run
-run-alike ss ss′ start start′ [] w = refl
-run-alike ss ss′ start start′ (k ∷ ks) w = steps ss ss′ start start′ ks (run-alike ss ss′ start start′ ks) k w .told
+run-alike ss start [] c u = refl
+run-alike ss start (k ∷ ks) c u = steps ss start ks (run-alike ss start ks) k (k .request) c u .told
 
-pub equal-futures : (k₁ k₂ : Call) (h₁ h₂ : Held) (r : NonceRequest) (c₁ c₂ : Coordinator) → Opens k₁ h₁ r c₁ → Opens k₂ h₂ r c₂ → k₁ .clock ≡ k₂ .clock → SameFour c₁ c₂ → (ks : List Call) → run ks (commissioned c₁) ≡ run ks (commissioned c₂)
+-- two rounds that were just opened by one request differ in nothing else
+opened-alike :
+    {now : ℕ} {r : NonceRequest} (c d : Coordinator) → Fresh now r c → Fresh now r d → SameFour c d
+    → d ≡ withOther (d .round .signature-shares) (d .round .clocks .sign-start) c
+opened-alike c d f g s =
+    λ i.
+    record {
+      standing = sym (s .standing) i;
+      ids = (g .ids ∙ sym (f .ids)) i;
+      position = (g .position ∙ sym (f .position)) i;
+      round =
+          record {
+            message = (g .message ∙ sym (f .message)) i;
+            message-nonces = (g .records ∙ sym (f .records)) i;
+            signature-shares = d .round .signature-shares;
+            clocks = record { nonce-start = (g .nonce-start ∙ sym (f .nonce-start)) i; sign-start = d .round .clocks .sign-start };
+          };
+      job = (g .job ∙ sym (f .job)) i;
+    }
+
+pub equal-futures :
+    (k₁ k₂ : Call) (h₁ h₂ : Held) (r : NonceRequest) (c₁ c₂ : Coordinator) → Opens k₁ h₁ r c₁ → Opens k₂ h₂ r c₂ → k₁ .clock ≡ k₂ .clock
+    → SameFour c₁ c₂ → (ks : List Call) → run ks (commissioned c₁) ≡ run ks (commissioned c₂)
 equal-futures k₁ k₂ h₁ h₂ r c₁ c₂ o₁ o₂ t s ks =
-    let ran : Coordinator → List Seen = λ (c : Coordinator). run ks (commissioned c) in
-    let e : freshly (k₁ .clock) r c₁ ≡ freshly (k₂ .clock) r c₂ = cc in
-    ap ran (freshly-gathers (opening k₁ h₁ r c₁ o₁))
-    ∙ run-alike (c₁ .signature-shares) (c₂ .signature-shares) (c₁ .clocks .sign-start) (c₂ .clocks .sign-start) ks (freshly (k₁ .clock) r c₁)
-    ∙ ap (λ (w : Gathering). ran (gathering w (c₂ .signature-shares) (c₂ .clocks .sign-start))) e
-    ∙ sym (ap ran (freshly-gathers (opening k₂ h₂ r c₂ o₂)))
+    let f₁ : Fresh (k₂ .clock) r c₁ = rw t at (opening k₁ h₁ r c₁ o₁) in
+    let u : Unread c₁ = rw (f₁ .position) in
+    run-alike (c₂ .round .signature-shares) (c₂ .round .clocks .sign-start) ks c₁ u
+    ∙ ap (λ (c : Coordinator). run ks (commissioned c)) (sym (opened-alike c₁ c₂ f₁ (opening k₂ h₂ r c₂ o₂) s))

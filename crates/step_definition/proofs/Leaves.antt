@@ -1,181 +1,210 @@
 -- What a step can come to, of the packets that it sends: a nonce request, a share request, or neither.
 -- Assumes nothing.
 use Prim.Native.Nat.{ℕ}
-use mathlib.Core.Path.{_≡_, refl, sym, subst, _∙_}
-use mathlib.Core.Bool.{Bool, true, false, cond, not}
+use mathlib.Core.Path.{_≡_, refl, sym, _∙_}
+use mathlib.Core.Bool.{Bool, true, false, cond}
 use mathlib.Core.List.{List, [], _∷_}
-use mathlib.Core.Option.{Option, some, none}
+use mathlib.Core.Option.{Option, some, none, Option·none-ne-some}
 use lib.Dec.{eqb}
 use lib.ListN.{getD}
-use borrow.Author.Tests.{not-true}
 use Rattle.wire.specs.Bytes.{le}
 use Rattle.layout.specs.declared.SignatureType.{SignatureType}
-use Rattle.layout.specs.Messages.{NonceRequest, SignatureShareRequest, Message, nonceRequest, nonceResponse, signatureShareRequest, signatureShareResponse, dkgBegin, dkgSigner, dkgCoordinator}
+use Rattle.layout.specs.Messages.{NonceRequest, NonceResponse, SignatureShareRequest, SignatureShareResponse, Message, nonceRequest, signatureShareRequest}
 use Rattle.layout.specs.Encode.{headerBytes, packet, encode, encodeJob, encodeNonceTimeout, encodeInsufficientSigners}
-use Rattle.layout.specs.Decode.{Decoded, decode}
-use Rattle.state_table.specs.declared.State.{State}
-use Rattle.state_table.specs.declared.State.the-variants.{Idle, DkgPublicDistribute, DkgPublicGather, DkgPublicSharesDoneDistribute, DkgPublicSharesDoneGather, DkgPrivateDistribute, DkgPrivateGather, DkgPrivateSharesDoneDistribute, DkgPrivateSharesDoneGather, DkgEndDistribute, DkgEndGather, NonceGather, SigShareRequest, SigShareGather}
-use Rattle.state_table.specs.declared.State.the-variants.{NonceRequest as NonceRequestState}
+use Rattle.layout.specs.Decode.{Decoded, taken, refused, decode}
+use Rattle.state_table.specs.declared.State.the-variants.{NonceGather}
 use Rattle.state_table.specs.States.{position}
+use Rattle.step_definition.specs.Lists.{given, first}
 use Rattle.step_definition.specs.Coordinator.{Coordinator, Held, uncommissioned, miscounted, commissioned}
-use Rattle.step_definition.specs.Calls.{Request, commission, setCoordinatorKey, setAggregateKey, takeResults, canMove, startSigning, process, processTimeout, processMessage, aggregated, reset, Start, Call, packet as packetClass, Answer, Event, recorded, shareRequested, Outcome, outcome, sending}
-use Rattle.step_definition.specs.Demand3.{Opens, nonceRequestIn, shareRequestIn}
-use Rattle.step_definition.specs.Questions.{question4, question5, question6, fires}
-use Rattle.step_definition.specs.Step.{startRound, nonceTimeout, shareTimeout, timeoutIn, idleRequest, idle, recordResponse, gatherNonces, takeShares, gatherShares, onResponse, onShares, messageIn, onMessage, orElse, withPacket, onAggregated, onResults, own, asks, before, onCommission, onHeld, step}
-use Rattle.step_definition.proofs.Cases.{cond-case}
-use Rattle.step_definition.proofs.StepCases.{step-case, unless-case, packet-case, response-case, some≢none}
+use Rattle.step_definition.specs.Calls.{Start, Entry, process, processMessage, Request, commission, other, Call, failing, quiet}
+use Rattle.step_definition.specs.Calls.{Operation, setKey, takeResults, canMove, startSigning, receive, processTimeout, aggregated, reset}
+use Rattle.step_definition.specs.Calls.{packet as packetClass, Answer, Event, recorded, shareRequested, nonceRequestIn, shareRequestIn, Outcome, outcome, sending}
+use Rattle.step_definition.specs.Demand3.{Opens}
+use Rattle.step_definition.specs.Effects.{recording, freeing}
+use Rattle.step_definition.specs.Phases.{Phase, idling, gatheringNonces, gatheringShares, resting, phaseOf}
+use Rattle.step_definition.specs.Phases.{Content, aNonceRequest, aNonceResponse, aShareResponse, aDkgBegin, unheard, contentOf, nonceResponseIn, shareResponseIn}
+use Rattle.step_definition.specs.Questions.{asks}
+use Rattle.step_definition.specs.Starts.{startRound, idleRequest, idle}
+use Rattle.step_definition.specs.Timeouts.{nonceTimeout, shareTimeout}
+use Rattle.step_definition.specs.NonceGather.{NonceVerdict, wrongId, ignored, noRoom, records, nonceVerdict, RecordVerdict, tooFew, noGroupKey, suffices, recordVerdict, onRecord, onNonces}
+use Rattle.step_definition.specs.SigShareGather.{ShareVerdict, unawaited, wrongId as wrongShareId, refused as refusedShares, unended, good, shareVerdict}
+use Rattle.step_definition.specs.SigShareGather.{TakeVerdict, alreadyHeld, others, last, takeVerdict, onTake, onShares}
+use Rattle.step_definition.specs.Step.{messageIn, onMessage, onEntry, onPacket, onAggregated, onResults, own, onCommission, onHeld, stepOf, step}
+use Rattle.step_definition.proofs.Cases.{cond-case, given-both}
+use Rattle.step_definition.proofs.Verdicts.{Before, gets4, gets5, gets6, gets7, goesOn, before-case, TimeoutCase, onTime, noncesLate, sharesLate, timeout-case}
 
 -- the coordinator that the nonce request r has just opened a round with
 pub record Fresh (now : ℕ) (r : NonceRequest) (c : Coordinator) : Type 0 where
   pub ids : c .ids ≡ r .ids
-  pub message : c .message ≡ r .message
+  pub message : c .round .message ≡ r .message
   pub position : c .position ≡ position (NonceGather (r .signature-type)) (r .root)
-  pub records : c .message-nonces ≡ []
-  pub nonce-start : c .clocks .nonce-start ≡ some now
+  pub records : c .round .message-nonces ≡ []
+  pub nonce-start : c .round .clocks .nonce-start ≡ some now
   pub job : c .job ≡ false
 
--- of a call that is asked 5 and goes on no job is out, of one that is asked 6 a job is
-passed : (store no-job a-job : Bool) (rest : Option ℕ) → cond store (cond no-job (cond a-job rest (some 6)) (some 5)) (some 4) ≡ none → (no-job ≡ true) × (a-job ≡ true)
-passed false no-job a-job rest e = (cc, cc)
-passed true false a-job rest e = (cc, cc)
-passed true true false rest e = (cc, cc)
-passed true true true rest e = (refl, refl)
-
-module _ (k : Call) (c : Coordinator) (e : before k c ≡ none) where
-  goes-on : (cond (asks (k .request) .no-job) (not (c .job)) true ≡ true) × (cond (asks (k .request) .a-job) (c .job) true ≡ true)
-  unfolding before question5 question6
-  goes-on = passed (question4 (k .store)) (cond (asks (k .request) .no-job) (not (c .job)) true) (cond (asks (k .request) .a-job) (c .job) true) _ e
-
-  pub no-job : asks (k .request) .no-job ≡ true → c .job ≡ false
-  no-job a = not-true (c .job) (subst (λ (b : Bool). cond b (not (c .job)) true ≡ true) a (goes-on .0))
-
-  pub a-job : asks (k .request) .a-job ≡ true → c .job ≡ true
-  a-job a = subst (λ (b : Bool). cond b (c .job) true ≡ true) a (goes-on .1)
+-- bytes that are no packet of this kind
+abbrev NotKind : ℕ → List ℕ → Type 0
+NotKind kind bytes = eqb (getD bytes 0 0) kind ≡ false
 
 -- what a step at the time now comes to
 pub data Leaf (now : ℕ) : Outcome → Type 0 where
-  other : {a : Answer} {es : List Event} {h : Held} → nonceRequestIn es ≡ none → shareRequestIn es ≡ none → eqb (getD (a .bytes) 0 0) 3 ≡ false → Leaf now (outcome a es h)
-  opens : {es : List Event} {r : NonceRequest} {c : Coordinator} → Fresh now r c → nonceRequestIn es ≡ some r → shareRequestIn es ≡ none → Leaf now (outcome (sending packetClass (encode (nonceRequest r))) es (commissioned c))
-  asksShares : {id : ℕ} {r : SignatureShareRequest} {h : Held} → Leaf now (outcome (sending packetClass (encode (signatureShareRequest r))) (recorded id ∷ (shareRequested r ∷ [])) h)
+  silent :
+      {a : Answer} {es : List Event} {h : Held} → nonceRequestIn es ≡ none → shareRequestIn es ≡ none → NotKind 1 (a .bytes)
+      → NotKind 3 (a .bytes) → Leaf now (outcome a es h)
+  opens :
+      {es : List Event} {r : NonceRequest} {c : Coordinator} → Fresh now r c → nonceRequestIn es ≡ some r → shareRequestIn es ≡ none
+      → Leaf now (outcome (sending packetClass (encode (nonceRequest r))) es (commissioned c))
+  asksShares :
+      {id : ℕ} {r : SignatureShareRequest} {h : Held}
+      → Leaf now (outcome (sending packetClass (encode (signatureShareRequest r))) (recorded id ∷ (shareRequested r ∷ [])) h)
 
 -- a test, and the leaves, for the search
 branch : {now : ℕ} {t : Bool} {a b : Outcome} → (t ≡ true → Leaf now a) → (t ≡ false → Leaf now b) → Leaf now (cond t a b)
 branch {now} {t} = cond-case (Leaf now) t
 
-ruleset leaves = (branch, other, opens, asksShares)
+ruleset leaves = (branch, silent, opens, asksShares)
 
 -- Each part of a step.
 module _ (now : ℕ) where
+  quietly : (c : Coordinator) → Leaf now (quiet c)
+  unfolding first
+  quietly c = search leaves
+
   -- a start, and a nonce request in Idle
   started : (s : Start) (c : Coordinator) → c .job ≡ false → Leaf now (startRound now s c)
-  unfolding startRound nonceRequestIn shareRequestIn
+  unfolding startRound first
   started s c j = search leaves
 
-  -- timeouts
-  late : (t : Bool) (o rest : Outcome) → Leaf now o → Leaf now rest → Leaf now (orElse (cond t (some o) none) rest)
-  unfolding orElse
-  late true o rest l m = l
-  late false o rest l m = m
+  idles : (m : Content) (c : Coordinator) → c .job ≡ false → Leaf now (idle now m c)
+  unfolding idle idleRequest first
+  idles (aNonceRequest r) c j = search (leaves, started)
+  idles (aNonceResponse q) c j = quietly c
+  idles (aShareResponse r) c j = quietly c
+  idles (aDkgBegin dkg) c j = search leaves
+  idles unheard c j = quietly c
 
+  -- timeouts
   nonces-late : (c : Coordinator) → Leaf now (nonceTimeout c)
-  unfolding nonceTimeout encodeNonceTimeout packet headerBytes le nonceRequestIn shareRequestIn
+  unfolding nonceTimeout encodeNonceTimeout packet headerBytes le first
   nonces-late c = search leaves
 
   shares-late : (t : SignatureType) (root : List ℕ) (c : Coordinator) → c .job ≡ false → Leaf now (shareTimeout now t root c)
-  unfolding shareTimeout encodeInsufficientSigners packet headerBytes le nonceRequestIn shareRequestIn
+  unfolding shareTimeout encodeInsufficientSigners packet headerBytes le first
   shares-late t root c j = search leaves
 
-  -- messages: in Idle, NonceGather and SigShareGather
-  idles : (m : Message) (c : Coordinator) → c .job ≡ false → Leaf now (idle now m c)
-  unfolding idle idleRequest nonceRequestIn shareRequestIn
-  idles (nonceRequest r) c j = search (leaves, started)
-  idles (nonceResponse q) c j = search leaves
-  idles (signatureShareRequest r) c j = search leaves
-  idles (signatureShareResponse r) c j = search leaves
-  idles (dkgBegin dkg) c j = search leaves
-  idles (dkgSigner signer dkg) c j = search leaves
-  idles (dkgCoordinator dkg) c j = search leaves
+  unless-late :
+      {p : Phase} {o : Option Outcome} (c : Coordinator) (rest : Outcome) → c .job ≡ false → TimeoutCase now c p o → Leaf now rest
+      → Leaf now (given o (λ (o : Outcome). o) rest)
+  unless-late c rest j onTime l = l
+  unless-late c rest j noncesLate l = nonces-late c
+  unless-late c rest j (sharesLate {t = t} e) l = shares-late t (c .position .root) c j
 
-  gathers : (t : SignatureType) (root : List ℕ) (m : Message) (c : Coordinator) → Leaf now (onResponse now t root m c)
-  unfolding gatherNonces recordResponse nonceRequestIn shareRequestIn
-  gathers t root m c = response-case (λ (f : Coordinator → Outcome). Leaf now (f c)) now t root m (search leaves) (λ q. search leaves depth 12)
+  -- responses, by verdict
+  on-record :
+      (t : SignatureType) (root : List ℕ) (q : NonceResponse) (c : Coordinator) (v : RecordVerdict) → Leaf now (onRecord now t root q c v)
+  unfolding onRecord first
+  on-record t root q c tooFew = search leaves
+  on-record t root q c noGroupKey = search leaves
+  on-record t root q c suffices = search leaves
 
-  shares : (t : SignatureType) (root : List ℕ) (m : Message) (c : Coordinator) → Leaf now (onShares t root m c)
-  unfolding onShares gatherShares takeShares encodeJob packet headerBytes le nonceRequestIn shareRequestIn
-  shares t root (nonceRequest r) c = search leaves
-  shares t root (nonceResponse q) c = search leaves
-  shares t root (signatureShareRequest r) c = search leaves
-  shares t root (signatureShareResponse r) c = search leaves depth 12
-  shares t root (dkgBegin dkg) c = search leaves
-  shares t root (dkgSigner signer dkg) c = search leaves
-  shares t root (dkgCoordinator dkg) c = search leaves
+  on-nonces :
+      (t : SignatureType) (root : List ℕ) (q : NonceResponse) (c : Coordinator) (v : NonceVerdict) → Leaf now (onNonces now t root q c v)
+  unfolding onNonces first
+  on-nonces t root q c (wrongId n got expected) = search leaves
+  on-nonces t root q c ignored = search leaves
+  on-nonces t root q c noRoom = search leaves
+  on-nonces t root q c records = on-record t root q (recording q c) (recordVerdict q (recording q c))
 
-  -- a timeout and a message, by state
-  acts : (s : State) (c : Coordinator) → c .job ≡ false → ((rest : Outcome) → Leaf now rest → Leaf now (orElse (timeoutIn now s c) rest)) × ((m : Message) → Leaf now (messageIn now s m c))
-  unfolding timeoutIn messageIn orElse nonceRequestIn shareRequestIn
-  acts Idle c j = (λ rest l. l, λ m. idles m c j)
-  acts DkgPublicDistribute c j = (λ rest l. l, λ m. search leaves)
-  acts DkgPublicGather c j = (λ rest l. l, λ m. search leaves)
-  acts DkgPublicSharesDoneDistribute c j = (λ rest l. l, λ m. search leaves)
-  acts DkgPublicSharesDoneGather c j = (λ rest l. l, λ m. search leaves)
-  acts DkgPrivateDistribute c j = (λ rest l. l, λ m. search leaves)
-  acts DkgPrivateGather c j = (λ rest l. l, λ m. search leaves)
-  acts DkgPrivateSharesDoneDistribute c j = (λ rest l. l, λ m. search leaves)
-  acts DkgPrivateSharesDoneGather c j = (λ rest l. l, λ m. search leaves)
-  acts DkgEndDistribute c j = (λ rest l. l, λ m. search leaves)
-  acts DkgEndGather c j = (λ rest l. l, λ m. search leaves)
-  acts (NonceRequestState t) c j = (λ rest l. l, λ m. search leaves)
-  acts (NonceGather t) c j = (λ rest l. late (fires _ _ _) _ rest (nonces-late c) l, λ m. gathers t (c .position .root) m c)
-  acts (SigShareRequest t) c j = (λ rest l. l, λ m. search leaves)
-  acts (SigShareGather t) c j = (λ rest l. late (fires _ _ _) _ rest (shares-late t (c .position .root) c j) l, λ m. shares t (c .position .root) m c)
+  on-take :
+      (t : SignatureType) (root : List ℕ) (r : SignatureShareResponse) (c : Coordinator) (v : TakeVerdict)
+      → Leaf now (onTake t root r c v)
+  unfolding onTake encodeJob packet headerBytes le first
+  on-take t root r c alreadyHeld = search leaves
+  on-take t root r c others = search leaves
+  on-take t root r c last = search leaves
 
-  -- past 13 and 14
-  on-message : (verdict : Bool) (m : Message) (c : Coordinator) → c .job ≡ false → Leaf now (onMessage now verdict m c)
-  unfolding onMessage nonceRequestIn shareRequestIn
-  on-message verdict m c j =
-      let rest : Leaf now (messageIn now (c .position .state) m c) = acts (c .position .state) c j .1 m in
+  on-shares :
+      (t : SignatureType) (root : List ℕ) (r : SignatureShareResponse) (c : Coordinator) (v : ShareVerdict)
+      → Leaf now (onShares t root r c v)
+  unfolding onShares first
+  on-shares t root r c unawaited = search leaves
+  on-shares t root r c (wrongShareId n got expected) = search leaves
+  on-shares t root r c (refusedShares n) = search leaves
+  on-shares t root r c unended = search leaves
+  on-shares t root r c good = on-take t root r (freeing (r .signer-id) c) (takeVerdict r (freeing (r .signer-id) c))
+
+  by-phase : (p : Phase) (m : Content) (c : Coordinator) → c .job ≡ false → Leaf now (messageIn now p m c)
+  unfolding messageIn
+  by-phase idling m c j = idles m c j
+  by-phase (gatheringNonces t) m c j =
+      given-both (Leaf now) (nonceResponseIn m) (λ q. on-nonces t (c .position .root) q c (nonceVerdict q c)) (quietly c)
+  by-phase (gatheringShares t) m c j =
+      given-both (Leaf now) (shareResponseIn m) (λ r. on-shares t (c .position .root) r c (shareVerdict r c)) (quietly c)
+  by-phase resting m c j = quietly c
+
+module _ (k : Call) (c : Coordinator) where
+  -- a message past 13 and 14, a packet, what a call does itself
+  on-message : (m : Message) → c .job ≡ false → Leaf (k .clock) (onMessage (k .clock) (k .verdict) m c)
+  unfolding onMessage first
+  on-message m j =
+      let rest : Leaf (k .clock) (messageIn (k .clock) (phaseOf (c .position .state)) (contentOf m) c) = by-phase (k .clock) (phaseOf (c .position .state)) (contentOf m) c j in
       search leaves
 
-module _ (k : Call) where
-  -- a packet, what a call does itself, and the whole step
-  unpacked : (d : Decoded) (f : Message → Outcome) (c : Coordinator) → ((m : Message) → Leaf (k .clock) (f m)) → Leaf (k .clock) (withPacket d f c)
-  unfolding nonceRequestIn shareRequestIn
-  unpacked d f c l = packet-case (λ (g : (Message → Outcome) → Coordinator → Outcome). Leaf (k .clock) (g f c)) d l (λ n. search leaves)
+  on-entry : (entry : Entry) (m : Message) → c .job ≡ false → Leaf (k .clock) (onEntry entry (k .clock) (k .verdict) m c)
+  on-entry process m j = unless-late (k .clock) c _ j (timeout-case (k .clock) c (phaseOf (c .position .state))) (on-message m j)
+  on-entry processMessage m j = on-message m j
 
-  owns : (r : Request) (c : Coordinator) → (asks r .no-job ≡ true → c .job ≡ false) → Leaf (k .clock) (own k r c)
-  unfolding own asks onResults onAggregated nonceRequestIn shareRequestIn
-  owns (commission g) c j = search leaves
-  owns (setCoordinatorKey held) c j = search leaves
-  owns (setAggregateKey held) c j = search leaves
-  owns (takeResults dkg ended) c j = search leaves
-  owns (canMove s root) c j = search leaves
-  owns (startSigning s) c j = let l : Leaf (k .clock) (startRound (k .clock) s c) = started (k .clock) s c (j refl) in search leaves
-  owns (process bytes) c j = unpacked (decode bytes) _ c (λ m. acts (k .clock) (c .position .state) c (j refl) .0 _ (on-message (k .clock) (k .verdict) m c (j refl)))
-  owns processTimeout c j = acts (k .clock) (c .position .state) c (j refl) .0 _ (search leaves)
-  owns (processMessage bytes) c j = unpacked (decode bytes) _ c (λ m. on-message (k .clock) (k .verdict) m c (j refl))
-  owns (aggregated ok) c j = search leaves
-  owns reset c j = search leaves
+  on-packet : (entry : Entry) (d : Decoded) → c .job ≡ false → Leaf (k .clock) (onPacket entry (k .clock) (k .verdict) d c)
+  unfolding onPacket first
+  on-packet entry (taken m) j = on-entry entry m j
+  on-packet entry (refused n) j = search leaves
 
-  held-leaf : (h : Held) → Leaf (k .clock) (onHeld k h)
-  unfolding onHeld nonceRequestIn shareRequestIn
-  held-leaf uncommissioned = search leaves
-  held-leaf miscounted = search leaves
-  held-leaf (commissioned c) =
-      unless-case (λ (f : Coordinator → Outcome → Outcome). Leaf (k .clock) (f c (own k (k .request) c))) (before k c) (λ n. search leaves) (λ e. owns (k .request) c (no-job k c e))
+  owns : (o : Operation) → (asks o .no-job ≡ true → c .job ≡ false) → Leaf (k .clock) (own k o c)
+  unfolding own asks onResults onAggregated first
+  owns (setKey which held) j = search leaves
+  owns (takeResults dkg ended) j = search leaves
+  owns (canMove p) j = search leaves
+  owns (startSigning s) j = let l : Leaf (k .clock) (startRound (k .clock) s c) = started (k .clock) s c (j refl) in search leaves
+  owns (receive entry bytes) j = on-packet entry (decode bytes) (j refl)
+  owns processTimeout j =
+      unless-late (k .clock) c _ (j refl) (timeout-case (k .clock) c (phaseOf (c .position .state))) (quietly (k .clock) c)
+  owns (aggregated ok) j = search leaves
+  owns reset j = search leaves
 
-  pub leaf : (h : Held) → Leaf (k .clock) (step k h)
-  unfolding step onCommission nonceRequestIn shareRequestIn
-  leaf h = step-case (λ (f : Held → Outcome). Leaf (k .clock) (f h)) k (k .request) (λ g. search leaves) (held-leaf h)
+  -- 4 to 7 first
+  asked : (o : Operation) {n : Option ℕ} → Before o c n → Leaf (k .clock) (given n (λ (n : ℕ). failing n [] c) (own k o c))
+  unfolding first
+  asked o gets4 = search leaves
+  asked o gets5 = search leaves
+  asked o gets6 = search leaves
+  asked o gets7 = search leaves
+  asked o (goesOn f g) = owns o f
+
+held-leaf : (k : Call) (o : Operation) (h : Held) → Leaf (k .clock) (onHeld k o h)
+unfolding onHeld first
+held-leaf k o uncommissioned = search leaves
+held-leaf k o miscounted = search leaves
+held-leaf k o (commissioned c) = asked k c o (before-case k o c)
+
+of-request : (k : Call) (r : Request) (h : Held) → Leaf (k .clock) (stepOf k r h)
+unfolding stepOf onCommission first
+of-request k (commission g) h = search leaves
+of-request k (other o) h = held-leaf k o h
+
+pub leaf : (k : Call) (h : Held) → Leaf (k .clock) (step k h)
+leaf k h = of-request k (k .request) h
 
 -- what an opening call leaves
-opened : {now : ℕ} {o : Outcome} (r : NonceRequest) (c : Coordinator) → Leaf now o → nonceRequestIn (o .events) ≡ some r → o .after ≡ commissioned c → Fresh now r c
-unfolding nonceRequestIn
-opened r c (other n s b) e f = absurd (some≢none r (sym e ∙ n))
+opened :
+    {now : ℕ} {o : Outcome} (r : NonceRequest) (c : Coordinator) → Leaf now o → nonceRequestIn (o .events) ≡ some r
+    → o .after ≡ commissioned c → Fresh now r c
+unfolding first
+opened r c (silent n s a b) e f = absurd (Option·none-ne-some r (sym n ∙ e))
 opened {now} r c (opens {r = r′} {c = c′} w n s) e f =
     let p : r′ ≡ r = cc in
     let q : c′ ≡ c = cc in
     rw (← p, ← q) w
-opened r c asksShares e f = absurd (some≢none r (sym e))
+opened r c asksShares e f = absurd (Option·none-ne-some r e)
 
 pub opening : (k : Call) (h : Held) (r : NonceRequest) (c : Coordinator) → Opens k h r c → Fresh (k .clock) r c
 opening k h r c o = opened r c (leaf k h) (o .sends) (o .leaves)

@@ -1,9 +1,11 @@
 -- Theorems about the step definition.
 pub mod Cases
-pub mod StepCases
+pub mod Lists
+pub mod Ascending
 pub mod Phases
-pub mod Outcomes
+pub mod Verdicts
 pub mod WorkedRounds
+pub mod Outcomes
 pub mod Refusals
 pub mod Malicious
 pub mod Waiters
@@ -14,7 +16,10 @@ pub mod Silence
 pub mod Leaves
 pub mod Gathering
 pub mod EqualFutures
-pub mod Ascending
 pub mod Entries
 pub mod Following
 pub mod NextShareRequest
+pub mod Answers
+pub mod EqualBytes
+pub mod Limited
+pub mod AnswerLengths

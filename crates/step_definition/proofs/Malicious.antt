@@ -2,29 +2,30 @@
 -- Assumes nothing.
 use Prim.Native.Nat.{ℕ}
 use mathlib.Core.Path.{_≡_}
-use mathlib.Core.Bool.{Bool, true, false, cond, _||_, false≢true, or-true}
-use mathlib.Core.List.{List, [], _∷_}
+use mathlib.Core.Bool.{Bool, true, false, cond, or-true}
+use mathlib.Core.List.{List}
 use mathlib.Core.Option.{some, none}
 use native.Mathlib.Omega.{arith}
-use lib.Dec.{eqb, ltb}
-use Rattle.state_table.specs.States.{stateNumber}
+use Rattle.layout.specs.declared.SignatureType.{SignatureType}
+use Rattle.state_table.specs.declared.State.the-variants.{SigShareGather}
 use Rattle.validity.specs.Keys.{member}
-use Rattle.step_definition.specs.Ids.{insert, insertAll}
-use Rattle.step_definition.specs.Coordinator.{Coordinator, Held, uncommissioned, commissioned, recordOf}
-use Rattle.step_definition.specs.Calls.{Call}
+use Rattle.step_definition.specs.Coordinator.{Coordinator, Held, uncommissioned, commissioned, waitersOf, currentRecord}
+use Rattle.step_definition.specs.Calls.{Call, markedIn}
 use Rattle.step_definition.specs.Questions.{fires}
 use Rattle.step_definition.specs.Run.{maliciousIn}
-use Rattle.step_definition.specs.Silence.{markedIn, isCommission}
-use Rattle.step_definition.specs.Step.{step, waitersOf}
-use Rattle.step_definition.proofs.Cases.{cond-case}
-use Rattle.step_definition.proofs.Outcomes.{Marking, kept, added, step-told}
+use Rattle.step_definition.specs.Silence.{isCommission}
+use Rattle.step_definition.specs.Step.{step}
+use Rattle.step_definition.proofs.Ascending.{member-insertAll}
+use Rattle.step_definition.proofs.Outcomes.{excluded, Marking, kept, added, step-told}
 
 -- what became of the list, where the call was no commissioning
 marking : (k : Call) (h : Held) → isCommission (k .request) ≡ false → Marking (k .clock) h (step k h)
 marking k h nc = rw nc at (step-told k h .marking)
 
 -- without a share timeout, and without commissioning, the list stays as it is
-pub malicious-kept : (k : Call) (h : Held) → isCommission (k .request) ≡ false → markedIn (step k h .events) ≡ none → maliciousIn (step k h .after) ≡ maliciousIn h
+pub malicious-kept :
+    (k : Call) (h : Held) → isCommission (k .request) ≡ false → markedIn (step k h .events) ≡ none
+    → maliciousIn (step k h .after) ≡ maliciousIn h
 malicious-kept k h nc e = from (marking k h nc)
   where
     from : Marking (k .clock) h (step k h) → maliciousIn (step k h .after) ≡ maliciousIn h
@@ -35,9 +36,10 @@ malicious-kept k h nc e = from (marking k h nc)
 pub record ShareTimeout (k : Call) (h : Held) : Type 0 where
   pub coordinator : Coordinator
   pub holds : h ≡ commissioned coordinator
-  pub gathers : stateNumber (coordinator .position .state) ≡ 14
-  pub elapsed : fires (k .clock) (coordinator .clocks .sign-start) (coordinator .config .timeouts .sign) ≡ true
-  pub adds : maliciousIn (step k h .after) ≡ insertAll (waitersOf (recordOf (coordinator .message) (coordinator .message-nonces))) (coordinator .malicious-signer-ids)
+  pub type : SignatureType
+  pub gathers : coordinator .position .state ≡ SigShareGather type
+  pub elapsed : fires (k .clock) (coordinator .round .clocks .sign-start) (coordinator .standing .config .timeouts .sign) ≡ true
+  pub adds : maliciousIn (step k h .after) ≡ excluded coordinator
 
 pub marked-by-timeout : (k : Call) (h : Held) (ids : List ℕ) → markedIn (step k h .events) ≡ some ids → ShareTimeout k h
 marked-by-timeout k h ids e = from (isCommission (k .request)) (step-told k h .marking)
@@ -45,30 +47,16 @@ marked-by-timeout k h ids e = from (isCommission (k .request)) (step-told k h .m
     from : (b : Bool) → Marking (k .clock) (cond b uncommissioned h) (step k h) → ShareTimeout k h
     from b (kept m s) = let z : _≡_ {A = ℕ} 0 1 = cc in absurd (omega arith)
     from true (added c ids held f m a) = let z : _≡_ {A = ℕ} 0 1 = cc in absurd (omega arith)
-    from false (added c ids held f m a) = record { coordinator = c; holds = held; gathers = f .gathers; elapsed = f .elapsed; adds = a }
-
--- who is in a list stays in it when others are added
-or-again : (a : Bool) {b c : Bool} → (b ≡ true → c ≡ true) → (a || b) ≡ true → (a || c) ≡ true
-or-again true f e = e
-or-again false f e = f e
-
-member-insert : (id x : ℕ) (ys : List ℕ) → member id ys ≡ true → member id (insert x ys) ≡ true
-unfolding member insert
-member-insert id x [] m = absurd (false≢true m)
-member-insert id x (y ∷ ys) m =
-    cond-case (λ (l : List ℕ). member id l ≡ true) (ltb x y) (λ l. rw m (or-true (eqb id x)))
-    (λ l. cond-case (λ (l : List ℕ). member id l ≡ true) (eqb x y) (λ s. m) (λ s. or-again (eqb id y) (member-insert id x ys) m))
-
-member-insertAll : (id : ℕ) (xs ys : List ℕ) → member id ys ≡ true → member id (insertAll xs ys) ≡ true
-unfolding insertAll
-member-insertAll id [] ys m = m
-member-insertAll id (x ∷ xs) ys m = member-insert id x (insertAll xs ys) (member-insertAll id xs ys m)
+    from false (added c ids held f m a) =
+        record { coordinator = c; holds = held; type = f .type; gathers = f .gathers; elapsed = f .elapsed; adds = a }
 
 -- nobody is taken off but by commissioning
-pub malicious-grows : (k : Call) (h : Held) (id : ℕ) → isCommission (k .request) ≡ false → member id (maliciousIn h) ≡ true → member id (maliciousIn (step k h .after)) ≡ true
+pub malicious-grows :
+    (k : Call) (h : Held) (id : ℕ) → isCommission (k .request) ≡ false → member id (maliciousIn h) ≡ true
+    → member id (maliciousIn (step k h .after)) ≡ true
 unfolding maliciousIn
 malicious-grows k h id nc m = from (marking k h nc)
   where
     from : Marking (k .clock) h (step k h) → member id (maliciousIn (step k h .after)) ≡ true
     from (kept n s) = rw s m
-    from (added c ids held f n a) = rw a (member-insertAll id _ _ (rw held at m))
+    from (added c ids held f n a) = rw (a, member-insertAll, rw held at m) (or-true (member id (waitersOf (currentRecord c))))

@@ -1,40 +1,58 @@
--- Every outcome of a step, looked at once: what a refusal leaves, and what becomes of the malicious list.
+-- Every outcome of a step: what its refusal changes, and what becomes of the malicious list.
 -- Assumes nothing.
 use Prim.Native.Nat.{ℕ, suc}
-use mathlib.Core.Path.{_≡_, refl, sym, ap, subst}
+use native.Mathlib.Omega.{arith}
+use mathlib.Core.Path.{_≡_, refl, sym, subst}
 use mathlib.Core.Bool.{Bool, true, false, cond, _||_, false≢true}
 use mathlib.Core.List.{List, [], _∷_}
 use mathlib.Core.Option.{Option, some, none}
-use native.Mathlib.Omega.{arith}
 use lib.Dec.{eqb}
 use Rattle.layout.specs.declared.SignatureType.{SignatureType}
-use Rattle.layout.specs.Messages.{Message, nonceRequest, nonceResponse, signatureShareRequest, signatureShareResponse, dkgBegin, dkgSigner, dkgCoordinator}
+use Rattle.layout.specs.Messages.{NonceResponse, SignatureShareResponse, Message}
 use Rattle.layout.specs.Decode.{Decoded, taken, refused, decode}
-use Rattle.state_table.specs.declared.State.{State}
-use Rattle.state_table.specs.declared.State.the-variants.{Idle, DkgPublicDistribute, DkgPublicGather, DkgPublicSharesDoneDistribute, DkgPublicSharesDoneGather, DkgPrivateDistribute, DkgPrivateGather, DkgPrivateSharesDoneDistribute, DkgPrivateSharesDoneGather, DkgEndDistribute, DkgEndGather, NonceGather, SigShareRequest, SigShareGather}
-use Rattle.state_table.specs.declared.State.the-variants.{NonceRequest as NonceRequestState}
-use Rattle.state_table.specs.States.{stateNumber, typesAgree, same}
+use Rattle.state_table.specs.declared.State.the-variants.{Idle, SigShareGather}
+use Rattle.state_table.specs.States.{typesAgree, same}
 use Rattle.state_table.specs.Moves.{accepted, canMoveTo}
+use Rattle.step_definition.specs.Lists.{given, first}
 use Rattle.step_definition.specs.Ids.{insertAll}
-use Rattle.step_definition.specs.Coordinator.{Coordinator, Held, uncommissioned, miscounted, commissioned, recordOf, withMessage}
-use Rattle.step_definition.specs.Calls.{Start, Request, commission, setCoordinatorKey, setAggregateKey, takeResults, canMove, startSigning, process, processTimeout, processMessage, aggregated, reset, Call, Class, Answer, Event, marked, Outcome, outcome, refusing}
-use Rattle.step_definition.specs.Effects.{rootFor, withSignId}
+use Rattle.step_definition.specs.Coordinator.{Coordinator, Held, uncommissioned, miscounted, commissioned, waitersOf, currentRecord}
+use Rattle.step_definition.specs.Calls.{Start, Entry, process, processMessage, Request, commission, other, Call}
+use Rattle.step_definition.specs.Calls.{Operation, setKey, takeResults, canMove, startSigning, receive, processTimeout, aggregated, reset}
+use Rattle.step_definition.specs.Calls.{Class, error, Answer, Event, marked, markedIn, Outcome, outcome, refusing, quiet}
+use Rattle.step_definition.specs.Effects.{rootFor, recording, freeing}
+use Rattle.step_definition.specs.Phases.{Phase, idling, gatheringNonces, gatheringShares, resting, phaseOf}
+use Rattle.step_definition.specs.Phases.{Content, aNonceRequest, aNonceResponse, aShareResponse, aDkgBegin, unheard, contentOf}
 use Rattle.step_definition.specs.Questions.{question11, fires}
 use Rattle.step_definition.specs.Refusals.{changedBy, changedByPacket, changedIn, heldAfter, afterRefusal}
 use Rattle.step_definition.specs.Run.{maliciousIn}
-use Rattle.step_definition.specs.Silence.{markedIn, isCommission}
-use Rattle.step_definition.specs.Step.{signIdOf, startRound, waitersOf, nonceTimeout, shareTimeout, timeoutIn, idleRequest, idle, recordResponse, gatherNonces, takeShares, gatherShares, onResponse, onShares, messageIn, onMessage, orElse, withPacket, onAggregated, onResults, own, before, unlessRefused, onCommission, onHeld, stepOf, step}
+use Rattle.step_definition.specs.Silence.{isCommission}
+use Rattle.step_definition.specs.Starts.{naming, startRound, idleRequest, idle}
+use Rattle.step_definition.specs.Timeouts.{nonceTimeout, shareTimeout}
+use Rattle.step_definition.specs.NonceGather.{NonceVerdict, RecordVerdict, tooFew, noGroupKey, suffices, recordVerdict, onRecord, onNonces}
+use Rattle.step_definition.specs.SigShareGather.{ShareVerdict, TakeVerdict, alreadyHeld, others, last, takeVerdict, onTake, onShares}
+use Rattle.step_definition.specs.Step.{messageIn, onMessage, onEntry, onPacket, onAggregated, onResults, own, onCommission, onHeld, stepOf, step}
 use Rattle.step_definition.proofs.Cases.{cond-case}
+use Rattle.step_definition.proofs.Phases.{in-idle, in-shares}
+use Rattle.step_definition.proofs.Verdicts.{Before, gets4, gets5, gets6, gets7, goesOn, before-case, TimeoutCase, onTime, noncesLate, sharesLate, timeout-case}
+use Rattle.step_definition.proofs.Verdicts.{NonceCase, gets16, gets17, gets18, ignores, gets19, isNew, nonce-case}
+use Rattle.step_definition.proofs.Verdicts.{ShareCase, notAwaited, otherDkg, otherSign, gets20, gets21, gets22, notEnded, isGood, share-case}
 
 -- the share timeout fires
 pub record Fires (now : ℕ) (c : Coordinator) : Type 0 where
-  pub gathers : stateNumber (c .position .state) ≡ 14
-  pub elapsed : fires now (c .clocks .sign-start) (c .config .timeouts .sign) ≡ true
+  pub type : SignatureType
+  pub gathers : c .position .state ≡ SigShareGather type
+  pub elapsed : fires now (c .round .clocks .sign-start) (c .standing .config .timeouts .sign) ≡ true
+
+-- the malicious list with the waiters added
+abbrev pub excluded : Coordinator → List ℕ
+excluded c = insertAll (waitersOf (currentRecord c)) (c .standing .malicious-signer-ids)
 
 -- what a step from h does to the malicious list: nothing, or a share timeout adds the waiters
 pub data Marking (now : ℕ) (h : Held) (o : Outcome) : Type 0 where
   kept : markedIn (o .events) ≡ none → maliciousIn (o .after) ≡ maliciousIn h → Marking now h o
-  added : (c : Coordinator) (ids : List ℕ) → h ≡ commissioned c → Fires now c → markedIn (o .events) ≡ some ids → maliciousIn (o .after) ≡ insertAll (waitersOf (recordOf (c .message) (c .message-nonces))) (c .malicious-signer-ids) → Marking now h o
+  added :
+      (c : Coordinator) (ids : List ℕ) → h ≡ commissioned c → Fires now c → markedIn (o .events) ≡ some ids
+      → maliciousIn (o .after) ≡ excluded c → Marking now h o
 
 -- an outcome of a step from h: a refusal with the number n leaves `left n`, and no byte
 pub record Told (now : ℕ) (left : ℕ → Held) (h : Held) (o : Outcome) : Type 0 where
@@ -43,202 +61,210 @@ pub record Told (now : ℕ) (left : ℕ → Held) (h : Held) (o : Outcome) : Typ
 
 -- The three kinds of outcome, and each kind of test that stands before outcomes.
 module _ {now : ℕ} {left : ℕ → Held} where
-  says : {h after : Held} {a : Answer} {es : List Event} → a .number ≡ 0 → markedIn es ≡ none → maliciousIn after ≡ maliciousIn h → Told now left h (outcome a es after)
+  says :
+      {h after : Held} {a : Answer} {es : List Event} → a .number ≡ 0 → markedIn es ≡ none → maliciousIn after ≡ maliciousIn h
+      → Told now left h (outcome a es after)
   says z m k = record { refusal = λ n e. absurd (omega arith); marking = kept m k }
 
-  refuses : {h after : Held} {k : Class} {m : ℕ} {vs : List ℕ} {es : List Event} → after ≡ left m → markedIn es ≡ none → maliciousIn after ≡ maliciousIn h → Told now left h (outcome (refusing k m vs) es after)
+  refuses :
+      {h after : Held} {k : Class} {m : ℕ} {vs : List ℕ} {es : List Event} → after ≡ left m → markedIn es ≡ none
+      → maliciousIn after ≡ maliciousIn h → Told now left h (outcome (refusing k m vs) es after)
   refuses {after = after} x m k = record { refusal = λ n e. (subst (λ (j : ℕ). after ≡ left j) e x, refl); marking = kept m k }
 
-  marks : {c : Coordinator} {after : Held} {a : Answer} {ids : List ℕ} {es : List Event} → a .number ≡ 0 → Fires now c → maliciousIn after ≡ insertAll (waitersOf (recordOf (c .message) (c .message-nonces))) (c .malicious-signer-ids) → Told now left (commissioned c) (outcome a (marked ids ∷ es) after)
-  unfolding markedIn
+  marks :
+      {c : Coordinator} {after : Held} {a : Answer} {ids : List ℕ} {es : List Event} → a .number ≡ 0 → Fires now c
+      → maliciousIn after ≡ excluded c → Told now left (commissioned c) (outcome a (marked ids ∷ es) after)
+  unfolding first
   marks {c = c} {ids = ids} z f k = record { refusal = λ n e. absurd (omega arith); marking = added c ids refl f refl k }
 
-  branch : {h : Held} {t : Bool} {a b : Outcome} → (t ≡ true → Told now left h a) → (t ≡ false → Told now left h b) → Told now left h (cond t a b)
+  branch :
+      {h : Held} {t : Bool} {a b : Outcome} → (t ≡ true → Told now left h a) → (t ≡ false → Told now left h b)
+      → Told now left h (cond t a b)
   branch {h = h} {t = t} = cond-case (Told now left h) t
-
-  -- a question before a call's own work
-  asked : {c : Coordinator} {t : Bool} (n : ℕ) (o : Option ℕ) (rest : Outcome) → commissioned c ≡ left n → (t ≡ true → Told now left (commissioned c) (unlessRefused o c rest)) → Told now left (commissioned c) (unlessRefused (cond t o (some n)) c rest)
-  unfolding unlessRefused markedIn
-  asked {t = true} n o rest x f = f refl
-  asked {t = false} n o rest x f = refuses x refl refl
-
-  -- a timeout before what follows where it does not fire
-  fired : {h : Held} {t : Bool} {o rest : Outcome} → (t ≡ true → Told now left h o) → Told now left h rest → Told now left h (orElse (cond t (some o) none) rest)
-  unfolding orElse
-  fired {t = true} f r = f refl
-  fired {t = false} f r = r
 
 ruleset told = (says, refuses, marks, branch)
 
 -- Timeouts, and what follows where none fires.
 module _ (now : ℕ) (left : ℕ → Held) (c : Coordinator) (x : commissioned c ≡ left 12) where
+  nonce-timeout : Told now left (commissioned c) (nonceTimeout c)
+  unfolding nonceTimeout maliciousIn first
+  nonce-timeout = search told
+
   share-timeout : (t : SignatureType) → Fires now c → Told now left (commissioned c) (shareTimeout now t (c .position .root) c)
-  unfolding shareTimeout maliciousIn markedIn
+  unfolding shareTimeout maliciousIn first
   share-timeout t f = search told
 
-  or-else : (s : State) (rest : Outcome) → c .position .state ≡ s → Told now left (commissioned c) rest → Told now left (commissioned c) (orElse (timeoutIn now s c) rest)
-  unfolding timeoutIn orElse nonceTimeout maliciousIn markedIn
-  or-else Idle rest s r = r
-  or-else DkgPublicDistribute rest s r = r
-  or-else DkgPublicGather rest s r = r
-  or-else DkgPublicSharesDoneDistribute rest s r = r
-  or-else DkgPublicSharesDoneGather rest s r = r
-  or-else DkgPrivateDistribute rest s r = r
-  or-else DkgPrivateGather rest s r = r
-  or-else DkgPrivateSharesDoneDistribute rest s r = r
-  or-else DkgPrivateSharesDoneGather rest s r = r
-  or-else DkgEndDistribute rest s r = r
-  or-else DkgEndGather rest s r = r
-  or-else (NonceRequestState t) rest s r = r
-  or-else (NonceGather t) rest s r = search (told, fired)
-  or-else (SigShareRequest t) rest s r = r
-  or-else (SigShareGather t) rest s r = fired (λ f. share-timeout t (record { gathers = ap stateNumber s; elapsed = f })) r
+  unless-late :
+      {p : Phase} {o : Option Outcome} (rest : Outcome) → phaseOf (c .position .state) ≡ p → TimeoutCase now c p o
+      → Told now left (commissioned c) rest → Told now left (commissioned c) (given o (λ (o : Outcome). o) rest)
+  unless-late rest e onTime r = r
+  unless-late rest e noncesLate r = nonce-timeout
+  unless-late rest e (sharesLate {t = t} f) r = share-timeout t (record { type = t; gathers = in-shares e; elapsed = f })
 
 -- A start: 10 and 11, where they are answered no.
-start-round : (now : ℕ) (left : ℕ → Held) (h : Held) (s : Start) (d : Coordinator) → let named = withSignId (signIdOf (s .sign-id) (d .ids .«sign_id»)) (withMessage (s .message) d) in d .malicious-signer-ids ≡ maliciousIn h → commissioned d ≡ left 10 → (question11 named (s .signature-type) (rootFor (s .signature-type) (s .root)) ≡ false → commissioned named ≡ left 11) → Told now left h (startRound now s d)
-unfolding startRound maliciousIn markedIn
+start-round :
+    (now : ℕ) (left : ℕ → Held) (h : Held) (s : Start) (d : Coordinator) → d .standing .malicious-signer-ids ≡ maliciousIn h
+    → commissioned d ≡ left 10
+    → (question11 (naming s d) (s .signature-type) (rootFor (s .signature-type) (s .root)) ≡ false → commissioned (naming s d) ≡ left 11)
+    → Told now left h (startRound now s d)
+unfolding startRound maliciousIn first
 start-round now left h s d k x y = search told
 
 -- From Idle a nonce request may always be made: 11 is never answered no there
-idle-moves : (c : Coordinator) (t : SignatureType) (root : List ℕ) {a b : Held} → c .position .state ≡ Idle → question11 c t root ≡ false → a ≡ b
+idle-moves :
+    (c : Coordinator) (t : SignatureType) (root : List ℕ) {a b : Held} → c .position .state ≡ Idle → question11 c t root ≡ false → a ≡ b
 unfolding question11 canMoveTo accepted same typesAgree
 idle-moves c t root e q = absurd (false≢true (sym (rw e at q)))
 
--- A message, state by state.
+-- A message, by what is heard of it.
 module _ (now : ℕ) (c : Coordinator) where
-  abbrev MessageTold : Message → Outcome → Type 0
+  abbrev MessageTold : Content → Outcome → Type 0
   MessageTold m = Told now (λ (n : ℕ). commissioned (changedBy n m c)) (commissioned c)
 
-  at-idle : (m : Message) → c .position .state ≡ Idle → MessageTold m (idle now m c)
-  unfolding idle idleRequest changedBy maliciousIn markedIn
-  at-idle (nonceRequest r) e = search (told, start-round, idle-moves)
-  at-idle (nonceResponse q) e = search told
-  at-idle (signatureShareRequest r) e = search told
-  at-idle (signatureShareResponse r) e = search told
-  at-idle (dkgBegin dkg) e = search told
-  at-idle (dkgSigner signer dkg) e = search told
-  at-idle (dkgCoordinator dkg) e = search told
+  quietly : (m : Content) → MessageTold m (quiet c)
+  unfolding maliciousIn first
+  quietly m = search told
+
+  at-idle : (m : Content) → c .position .state ≡ Idle → MessageTold m (idle now m c)
+  unfolding idle idleRequest changedBy maliciousIn first
+  at-idle (aNonceRequest r) e = search (told, start-round, idle-moves)
+  at-idle (aNonceResponse q) e = quietly (aNonceResponse q)
+  at-idle (aShareResponse r) e = quietly (aShareResponse r)
+  at-idle (aDkgBegin dkg) e = search told
+  at-idle unheard e = quietly unheard
 
   module _ (t : SignatureType) (root : List ℕ) where
-    gather-nonces : (m : Message) → MessageTold m (onResponse now t root m c)
-    unfolding onResponse gatherNonces recordResponse changedBy maliciousIn markedIn
-    gather-nonces (nonceRequest r) = search told
-    gather-nonces (nonceResponse q) = search told depth 12
-    gather-nonces (signatureShareRequest r) = search told
-    gather-nonces (signatureShareResponse r) = search told
-    gather-nonces (dkgBegin dkg) = search told
-    gather-nonces (dkgSigner signer dkg) = search told
-    gather-nonces (dkgCoordinator dkg) = search told
+    records-told : (q : NonceResponse) (v : RecordVerdict) → MessageTold (aNonceResponse q) (onRecord now t root q (recording q c) v)
+    unfolding onRecord changedBy maliciousIn first
+    records-told q tooFew = search told
+    records-told q noGroupKey = search told
+    records-told q suffices = search told
 
-    gather-shares : (m : Message) → MessageTold m (onShares t root m c)
-    unfolding onShares gatherShares takeShares changedBy maliciousIn markedIn
-    gather-shares (nonceRequest r) = search told
-    gather-shares (nonceResponse q) = search told
-    gather-shares (signatureShareRequest r) = search told
-    gather-shares (signatureShareResponse r) = search told depth 12
-    gather-shares (dkgBegin dkg) = search told
-    gather-shares (dkgSigner signer dkg) = search told
-    gather-shares (dkgCoordinator dkg) = search told
+    nonces-told : {q : NonceResponse} {v : NonceVerdict} → NonceCase q c v → MessageTold (aNonceResponse q) (onNonces now t root q c v)
+    unfolding onNonces changedBy maliciousIn first
+    nonces-told gets16 = search told
+    nonces-told gets17 = search told
+    nonces-told gets18 = search told
+    nonces-told ignores = search told
+    nonces-told gets19 = search told
+    nonces-told {q = q} (isNew e) = records-told q (recordVerdict q _)
 
-  in-state : (s : State) (m : Message) → c .position .state ≡ s → MessageTold m (messageIn now s m c)
-  unfolding messageIn maliciousIn markedIn
-  in-state Idle m e = at-idle m e
-  in-state DkgPublicDistribute m e = search told
-  in-state DkgPublicGather m e = search told
-  in-state DkgPublicSharesDoneDistribute m e = search told
-  in-state DkgPublicSharesDoneGather m e = search told
-  in-state DkgPrivateDistribute m e = search told
-  in-state DkgPrivateGather m e = search told
-  in-state DkgPrivateSharesDoneDistribute m e = search told
-  in-state DkgPrivateSharesDoneGather m e = search told
-  in-state DkgEndDistribute m e = search told
-  in-state DkgEndGather m e = search told
-  in-state (NonceRequestState t) m e = search told
-  in-state (NonceGather t) m e = gather-nonces t (c .position .root) m
-  in-state (SigShareRequest t) m e = search told
-  in-state (SigShareGather t) m e = gather-shares t (c .position .root) m
+    take-told :
+        (r : SignatureShareResponse) (v : TakeVerdict) → MessageTold (aShareResponse r) (onTake t root r (freeing (r .signer-id) c) v)
+    unfolding onTake maliciousIn first
+    take-told r alreadyHeld = search told
+    take-told r others = search told
+    take-told r last = search told
+
+    shares-told : {r : SignatureShareResponse} {v : ShareVerdict} → ShareCase r c v → MessageTold (aShareResponse r) (onShares t root r c v)
+    unfolding onShares changedBy maliciousIn first
+    shares-told (notAwaited e) = search told
+    shares-told (otherDkg e) = search told
+    shares-told (otherSign e) = search told
+    shares-told (gets20 e) = search told
+    shares-told (gets21 e) = search told
+    shares-told (gets22 e) = search told
+    shares-told (notEnded e) = search told
+    shares-told {r = r} (isGood e) = take-told r (takeVerdict r _)
+
+  by-phase : (p : Phase) (m : Content) → phaseOf (c .position .state) ≡ p → MessageTold m (messageIn now p m c)
+  unfolding messageIn
+  by-phase idling m e = at-idle m (in-idle e)
+  by-phase (gatheringNonces t) (aNonceRequest r) e = quietly (aNonceRequest r)
+  by-phase (gatheringNonces t) (aNonceResponse q) e = nonces-told t _ (nonce-case q c)
+  by-phase (gatheringNonces t) (aShareResponse r) e = quietly (aShareResponse r)
+  by-phase (gatheringNonces t) (aDkgBegin dkg) e = quietly (aDkgBegin dkg)
+  by-phase (gatheringNonces t) unheard e = quietly unheard
+  by-phase (gatheringShares t) (aNonceRequest r) e = quietly (aNonceRequest r)
+  by-phase (gatheringShares t) (aNonceResponse q) e = quietly (aNonceResponse q)
+  by-phase (gatheringShares t) (aShareResponse r) e = shares-told t _ (share-case r c)
+  by-phase (gatheringShares t) (aDkgBegin dkg) e = quietly (aDkgBegin dkg)
+  by-phase (gatheringShares t) unheard e = quietly unheard
+  by-phase resting m e = quietly m
 
 -- A number other than 10, 11, 20 to 22 and 23 changes nothing, whatever the call
-module _ (c : Coordinator) (n : ℕ) (n10 : eqb n 10 ≡ false) (n11 : eqb n 11 ≡ false) (n20 : (eqb n 20 || eqb n 21 || eqb n 22) ≡ false) (n23 : eqb n 23 ≡ false) where
-  bare-message : (m : Message) → commissioned c ≡ commissioned (changedBy n m c)
+module _ (c : Coordinator) (n : ℕ) (n10 : eqb n 10 ≡ false) (n11 : eqb n 11 ≡ false)
+    (n20 : (eqb n 20 || eqb n 21 || eqb n 22) ≡ false) (n23 : eqb n 23 ≡ false) where
+  bare-message : (m : Content) → commissioned c ≡ commissioned (changedBy n m c)
   unfolding changedBy
-  bare-message (nonceRequest r) = rw n10
-  bare-message (nonceResponse q) = rw n10
-  bare-message (signatureShareRequest r) = refl
-  bare-message (signatureShareResponse r) = rw n20
-  bare-message (dkgBegin dkg) = refl
-  bare-message (dkgSigner signer dkg) = refl
-  bare-message (dkgCoordinator dkg) = refl
+  bare-message (aNonceRequest r) = rw n10
+  bare-message (aNonceResponse q) = rw n10
+  bare-message (aShareResponse r) = rw n20
+  bare-message (aDkgBegin dkg) = refl
+  bare-message unheard = refl
 
   bare-packet : (d : Decoded) → commissioned c ≡ commissioned (changedByPacket n d c)
   unfolding changedByPacket
-  bare-packet (taken m) = bare-message m
+  bare-packet (taken m) = bare-message (contentOf m)
   bare-packet (refused k) = refl
 
-  bare : (r : Request) → commissioned c ≡ commissioned (changedIn n r c)
+  bare : (o : Operation) → commissioned c ≡ commissioned (changedIn n o c)
   unfolding changedIn
-  bare (commission g) = refl
-  bare (setCoordinatorKey held) = refl
-  bare (setAggregateKey held) = refl
+  bare (setKey which held) = refl
   bare (takeResults dkg ended) = refl
-  bare (canMove s root) = refl
+  bare (canMove p) = refl
   bare (startSigning s) = rw n11
-  bare (process bytes) = bare-packet (decode bytes)
+  bare (receive entry bytes) = bare-packet (decode bytes)
   bare processTimeout = refl
-  bare (processMessage bytes) = bare-packet (decode bytes)
   bare (aggregated ok) = rw n23
   bare reset = refl
 
 -- What a call does once 4 to 7 are yes.
 module _ (k : Call) (c : Coordinator) where
-  on-message : (m : Message) → MessageTold (k .clock) c m (onMessage (k .clock) (k .verdict) m c)
-  unfolding onMessage maliciousIn markedIn
-  on-message m = let rest = in-state (k .clock) c (c .position .state) m refl in search (told, bare-message)
+  on-message : (m : Message) → MessageTold (k .clock) c (contentOf m) (onMessage (k .clock) (k .verdict) m c)
+  unfolding onMessage maliciousIn first
+  on-message m = let rest = by-phase (k .clock) c (phaseOf (c .position .state)) (contentOf m) refl in search (told, bare-message)
 
-  with-packet : (d : Decoded) (rest : Message → Outcome) → ((m : Message) → MessageTold (k .clock) c m (rest m)) → Told (k .clock) (λ (n : ℕ). commissioned (changedByPacket n d c)) (commissioned c) (withPacket d rest c)
-  unfolding withPacket changedByPacket maliciousIn markedIn
-  with-packet (taken m) rest f = f m
-  with-packet (refused n) rest f = search told
+  on-entry : (entry : Entry) (m : Message) → MessageTold (k .clock) c (contentOf m) (onEntry entry (k .clock) (k .verdict) m c)
+  on-entry process m =
+      unless-late (k .clock) _ c (bare-message c 12 refl refl refl refl (contentOf m)) _ refl
+      (timeout-case (k .clock) c (phaseOf (c .position .state))) (on-message m)
+  on-entry processMessage m = on-message m
 
-  own-told : (r : Request) → Told (k .clock) (λ (n : ℕ). commissioned (changedIn n r c)) (commissioned c) (own k r c)
-  unfolding own changedIn onResults onAggregated maliciousIn markedIn
-  own-told (commission g) = search told
-  own-told (setCoordinatorKey held) = search told
-  own-told (setAggregateKey held) = search told
+  on-packet :
+      (entry : Entry) (d : Decoded)
+      → Told (k .clock) (λ (n : ℕ). commissioned (changedByPacket n d c)) (commissioned c) (onPacket entry (k .clock) (k .verdict) d c)
+  unfolding onPacket changedByPacket maliciousIn first
+  on-packet entry (taken m) = on-entry entry m
+  on-packet entry (refused n) = search told
+
+  own-told : (o : Operation) → Told (k .clock) (λ (n : ℕ). commissioned (changedIn n o c)) (commissioned c) (own k o c)
+  unfolding own changedIn onResults onAggregated maliciousIn first
+  own-told (setKey which held) = search told
   own-told (takeResults dkg ended) = search told
-  own-told (canMove s root) = search told
+  own-told (canMove p) = search told
   own-told (startSigning s) = search (told, start-round)
-  own-told (process bytes) = with-packet (decode bytes) _ (λ (m : Message). or-else (k .clock) _ c (bare-message c 12 refl refl refl refl m) (c .position .state) _ refl (on-message m))
-  own-told processTimeout = or-else (k .clock) _ c refl (c .position .state) _ refl (search told)
-  own-told (processMessage bytes) = with-packet (decode bytes) _ on-message
+  own-told (receive entry bytes) = on-packet entry (decode bytes)
+  own-told processTimeout = unless-late (k .clock) _ c refl _ refl (timeout-case (k .clock) c (phaseOf (c .position .state))) (search told)
   own-told (aggregated ok) = search told
   own-told reset = search told
 
--- A call of what is held, 4 to 7 first.
-on-held : (k : Call) (h : Held) → Told (k .clock) (λ (n : ℕ). heldAfter n (k .request) h) h (onHeld k h)
-unfolding onHeld heldAfter before unlessRefused maliciousIn markedIn
-on-held k uncommissioned = search told
-on-held k miscounted = search told
-on-held k (commissioned c) = let rest = own-told k c (k .request) in search (asked, bare) depth 8
+  -- 4 to 7 first
+  after-questions :
+      (o : Operation) {n : Option ℕ} → Before o c n
+      → Told (k .clock) (λ (n : ℕ). commissioned (changedIn n o c)) (commissioned c) (given n (λ (n : ℕ). outcome (refusing error n []) [] (commissioned c)) (own k o c))
+  unfolding maliciousIn first
+  after-questions o gets4 = search (told, bare)
+  after-questions o gets5 = search (told, bare)
+  after-questions o gets6 = search (told, bare)
+  after-questions o gets7 = search (told, bare)
+  after-questions o (goesOn f g) = own-told o
 
-on-held-as : (k : Call) (h : Held) (r : Request) → k .request ≡ r → Told (k .clock) (λ (n : ℕ). heldAfter n r h) h (onHeld k h)
-on-held-as k h r e = subst (λ (q : Request). Told (k .clock) (λ (n : ℕ). heldAfter n q h) h (onHeld k h)) e (on-held k h)
+-- A call of what is held. Commissioning does what it does to the uncommissioned.
+on-held : (k : Call) (o : Operation) (h : Held) → Told (k .clock) (λ (n : ℕ). heldAfter n o h) h (onHeld k o h)
+unfolding onHeld heldAfter maliciousIn first
+on-held k o uncommissioned = search told
+on-held k o miscounted = search told
+on-held k o (commissioned c) = after-questions k c o (before-case k o c)
 
--- Every call. Commissioning does what it does to the uncommissioned.
-of-request : (k : Call) (h : Held) (r : Request) → k .request ≡ r → Told (k .clock) (λ (n : ℕ). afterRefusal n r h) (cond (isCommission r) uncommissioned h) (stepOf k r h)
-unfolding stepOf onCommission afterRefusal isCommission maliciousIn markedIn
-of-request k h (commission g) e = search told
-of-request k h (setCoordinatorKey held) e = on-held-as k h _ e
-of-request k h (setAggregateKey held) e = on-held-as k h _ e
-of-request k h (takeResults dkg ended) e = on-held-as k h _ e
-of-request k h (canMove s root) e = on-held-as k h _ e
-of-request k h (startSigning s) e = on-held-as k h _ e
-of-request k h (process bytes) e = on-held-as k h _ e
-of-request k h processTimeout e = on-held-as k h _ e
-of-request k h (processMessage bytes) e = on-held-as k h _ e
-of-request k h (aggregated ok) e = on-held-as k h _ e
-of-request k h reset e = on-held-as k h _ e
+of-request :
+    (k : Call) (h : Held) (r : Request)
+    → Told (k .clock) (λ (n : ℕ). afterRefusal n r h) (cond (isCommission r) uncommissioned h) (stepOf k r h)
+unfolding stepOf onCommission afterRefusal maliciousIn first
+of-request k h (commission g) = search told
+of-request k h (other o) = on-held k o h
 
-pub step-told : (k : Call) (h : Held) → Told (k .clock) (λ (n : ℕ). afterRefusal n (k .request) h) (cond (isCommission (k .request)) uncommissioned h) (step k h)
-unfolding step
-step-told k h = of-request k h (k .request) refl
+pub step-told :
+    (k : Call) (h : Held)
+    → Told (k .clock) (λ (n : ℕ). afterRefusal n (k .request) h) (cond (isCommission (k .request)) uncommissioned h) (step k h)
+step-told k h = of-request k h (k .request)

@@ -1,39 +1,43 @@
--- The states by what a call does in them: in all but three a message does nothing and no timeout is tested.
+-- The states by phase: in which state each of the three live phases is.
 -- Assumes nothing.
-use Prim.Native.Nat.{ℕ}
-use mathlib.Core.Path.{_≡_, refl}
-use mathlib.Core.Bool.{false}
-use mathlib.Core.Option.{none}
-use lib.Dec.{eqb}
+use mathlib.Core.Path.{_≡_, refl, subst}
+use mathlib.Core.Bool.{true, false≢true}
 use Rattle.layout.specs.declared.SignatureType.{SignatureType}
-use Rattle.layout.specs.Messages.{Message}
 use Rattle.state_table.specs.declared.State.{State}
 use Rattle.state_table.specs.declared.State.the-variants.{Idle, DkgPublicDistribute, DkgPublicGather, DkgPublicSharesDoneDistribute, DkgPublicSharesDoneGather, DkgPrivateDistribute, DkgPrivateGather, DkgPrivateSharesDoneDistribute, DkgPrivateSharesDoneGather, DkgEndDistribute, DkgEndGather, NonceRequest, NonceGather, SigShareRequest, SigShareGather}
-use Rattle.state_table.specs.States.{stateNumber}
-use Rattle.step_definition.specs.Coordinator.{Coordinator}
-use Rattle.step_definition.specs.Step.{quiet, timeoutIn, messageIn}
+use Rattle.step_definition.specs.Phases.{Phase, idling, gatheringNonces, gatheringShares, resting, phaseOf, isIdle}
 
--- a state at rest is not SigShareGather, tests no timeout and does nothing with a message
-pub data Phase : State → Type 0 where
-  idling : Phase Idle
-  nonces : (t : SignatureType) → Phase (NonceGather t)
-  shares : (t : SignatureType) → Phase (SigShareGather t)
-  rests : {s : State} → eqb (stateNumber s) 14 ≡ false → ((now : ℕ) (c : Coordinator) → timeoutIn now s c ≡ none) → ((now : ℕ) (m : Message) (c : Coordinator) → messageIn now s m c ≡ quiet c) → Phase s
+abbrev In : State → Phase → Type 0
+In s idling = s ≡ Idle
+In s (gatheringNonces t) = s ≡ NonceGather t
+In s (gatheringShares t) = s ≡ SigShareGather t
+In s resting = Unit {0}
 
-pub phase : (s : State) → Phase s
-unfolding timeoutIn messageIn
-phase Idle = idling
-phase DkgPublicDistribute = rests refl (λ now c. refl) (λ now m c. refl)
-phase DkgPublicGather = rests refl (λ now c. refl) (λ now m c. refl)
-phase DkgPublicSharesDoneDistribute = rests refl (λ now c. refl) (λ now m c. refl)
-phase DkgPublicSharesDoneGather = rests refl (λ now c. refl) (λ now m c. refl)
-phase DkgPrivateDistribute = rests refl (λ now c. refl) (λ now m c. refl)
-phase DkgPrivateGather = rests refl (λ now c. refl) (λ now m c. refl)
-phase DkgPrivateSharesDoneDistribute = rests refl (λ now c. refl) (λ now m c. refl)
-phase DkgPrivateSharesDoneGather = rests refl (λ now c. refl) (λ now m c. refl)
-phase DkgEndDistribute = rests refl (λ now c. refl) (λ now m c. refl)
-phase DkgEndGather = rests refl (λ now c. refl) (λ now m c. refl)
-phase (NonceRequest t) = rests refl (λ now c. refl) (λ now m c. refl)
-phase (NonceGather t) = nonces t
-phase (SigShareRequest t) = rests refl (λ now c. refl) (λ now m c. refl)
-phase (SigShareGather t) = shares t
+in-phase : (s : State) → In s (phaseOf s)
+in-phase Idle = refl
+in-phase DkgPublicDistribute = tt
+in-phase DkgPublicGather = tt
+in-phase DkgPublicSharesDoneDistribute = tt
+in-phase DkgPublicSharesDoneGather = tt
+in-phase DkgPrivateDistribute = tt
+in-phase DkgPrivateGather = tt
+in-phase DkgPrivateSharesDoneDistribute = tt
+in-phase DkgPrivateSharesDoneGather = tt
+in-phase DkgEndDistribute = tt
+in-phase DkgEndGather = tt
+in-phase (NonceRequest t) = tt
+in-phase (NonceGather t) = refl
+in-phase (SigShareRequest t) = tt
+in-phase (SigShareGather t) = refl
+
+pub in-idle : {s : State} → phaseOf s ≡ idling → s ≡ Idle
+in-idle {s} e = subst (In s) e (in-phase s)
+
+pub in-shares : {s : State} {t : SignatureType} → phaseOf s ≡ gatheringShares t → s ≡ SigShareGather t
+in-shares {s} e = subst (In s) e (in-phase s)
+
+pub is-idle : (p : Phase) → isIdle p ≡ true → p ≡ idling
+is-idle idling e = refl
+is-idle (gatheringNonces t) e = absurd (false≢true e)
+is-idle (gatheringShares t) e = absurd (false≢true e)
+is-idle resting e = absurd (false≢true e)

@@ -1,31 +1,89 @@
--- 01's worked rounds marked P, and the corners of fire.rs that 01 names: each, played from commissioning on, tells what its table says. One theorem a
--- table, by computation.
+-- 01's worked rounds marked P, and a round for each of its clauses: each, played, tells what its table says. One theorem a table, by one
+-- computation.
 -- Assumes nothing.
 use mathlib.Core.Path.{_≡_, refl}
-use mathlib.Core.List.{map}
-use Rattle.wire.specs.Bytes.{le, number, put, joined, every, sameBytes}
+use mathlib.Core.List.{[], _∷_, map}
+use mathlib.Core.Option.{some}
+use Rattle.wire.specs.Bytes.{le, number, joined, every, sameBytes}
 use Rattle.layout.specs.Decode.{entries, idsIn, nonceIn, noncesIn, shareIn, responseIn, requestIn, shareRequestIn, shareResponseIn, messageIn, responseWithin, keyCount, within, decode}
 use Rattle.layout.specs.Encode.{headerBytes, table, packet, idBytes, nonceBytes, shareBytes, responseParts, encodeResponse, header, parts, encode, encodeJob, encodeNonceTimeout, encodeInsufficientSigners}
 use Rattle.layout.specs.LaidOut.{headerIn, partAt, partsFrom, tiles, dkgOnly, headed, framed, wholeEntries, wholeShare, wholeResponse, responseLaidOut, wholeRoot, wholeLists, laidOut}
 use Rattle.layout.specs.Types.{typeOf, rootLength}
-use Rattle.validity.specs.Keys.{listed, member, subset, sameSet}
+use Rattle.validity.specs.Keys.{member, subset, sameSet}
 use Rattle.validity.specs.Nonces.{validPoint, validNonce, noncesValid}
-use Rattle.state_table.specs.Moves.{accepted, canMoveTo, states, allowed}
+use Rattle.state_table.specs.Moves.{accepted, canMoveTo}
 use Rattle.state_table.specs.States.{sameType, typesAgree, same}
-use Rattle.step_definition.specs.Configuration.{question1, setWithin, question2, setSize, setSizes, question3, ascendingSet, insertSigner, ascendingSigners, ascending, configuredIn, keySetIn, numKeyIds}
-use Rattle.step_definition.specs.Coordinator.{recordOf, removeWaiter, insertResponse, addResponse, responded, insertShares, sharesOf}
+use Rattle.step_definition.specs.Lists.{find, change, insertBy, first}
+use Rattle.step_definition.specs.Ids.{insertAll, remove, without, distinct, next, previous}
+use Rattle.step_definition.specs.Configuration.{question1, question2, setSizes, question3, ascendingSigners, ascending, numKeyIds}
+use Rattle.step_definition.specs.Questions.{question4, question5, question6, question7, asks, before, question9, question10, question11, fires, question12, question13, question14, question15, admitted, question19, question20, question21, question22, question24, question25}
+use Rattle.step_definition.specs.Effects.{rootFor, recvKeyIds, shareKeyIds, joinedKeys, joinedNonces, joinedShares, whole}
+use Rattle.step_definition.specs.Starts.{startRound, idleRequest, idle}
+use Rattle.step_definition.specs.Timeouts.{nonceTimeout, shareTimeout, timeoutIn}
+use Rattle.step_definition.specs.NonceGather.{nonceVerdict, recordVerdict, onRecord, onNonces}
+use Rattle.step_definition.specs.SigShareGather.{shareVerdict, anyWaits, takeVerdict, onTake, onShares}
+use Rattle.step_definition.specs.Step.{messageIn as messageIn′, onMessage, onPacket, onAggregated, onResults, own, onCommission, onHeld, stepOf}
+use Rattle.step_definition.specs.Run.{final}
+use Rattle.step_definition.specs.Rounds.{rounds, played, leftIn, play, playFrom, ready, request9, q0, q1, answers, shares9}
 use Rattle.step_definition.specs.Corners.{corners}
-use Rattle.step_definition.specs.Demand3.{nonceRequestIn, shareRequestIn as shareRequestIn′, openedBy, plainRequest, groupKeyIn, orLaterSent, firstShareRequest}
-use Rattle.step_definition.specs.Effects.{rootFor, keysIn, recvKeyIds, joinedKeys, joinedNonces, sharesIn, joinedShares, isHeld, whole, shareKeyIds}
-use Rattle.step_definition.specs.Ids.{insert, insertAll, remove, without, distinct, next, previous}
-use Rattle.step_definition.specs.Questions.{question4, question5, question6, question7, question9, question10, question11, isRecord, question12, question13, question14, question15, admitted, question19, question20, question21, question22, question24, question25, fires}
-use Rattle.step_definition.specs.Rounds.{rounds, tellings, left, iterationIn, play}
-use Rattle.step_definition.specs.Step.{signIdOf, startRound, waitersOf, nonceTimeout, shareTimeout, timeoutIn, idleRequest, idle, responsesOf, recordResponse, gatherNonces, anyWaits, takeShares, gatherShares, onResponse, onShares, messageIn as messageIn′, onMessage, orElse, withPacket, resultNumber, typeOr, onAggregated, onResults, yesNo, own, asks, before, unlessRefused, onCommission, onHeld, stepOf, step}
+use Rattle.step_definition.specs.EveryCall.{commissionings, everyCall}
+use Rattle.step_definition.specs.Asked.{asked}
+use Rattle.step_definition.specs.Jobs.{jobs}
+use Rattle.step_definition.specs.Kept.{kept, opener, opened9}
+use Rattle.step_definition.specs.Coordinator.{uncommissioned, commissioned}
+use Rattle.step_definition.specs.ResponseLog.{orLater}
+use Rattle.step_definition.specs.Demand3.{Opens, plainOperation, plainRequest, groupKeyIn, Plain, firstShareRequest}
+
+-- what demand 3's theorems suppose, met by the worked round: 0 and 1 answer, and the second's response sends the share request
+pub record Met : Type 0 where
+  pub opens : Opens opener (final ready uncommissioned) (request9 1) opened9
+  pub plain : Plain (answers 0 q0 ∷ answers 0 q1 ∷ []) (commissioned opened9)
+  pub sends :
+      firstShareRequest (answers 0 q0 ∷ answers 0 q1 ∷ []) (commissioned opened9)
+      ≡ some (record { call = 1; request = shares9 (q0 ∷ q1 ∷ []) })
+
+-- all tables in one computation
+tables :
+    (map play rounds ≡ rounds)
+    × (map play corners ≡ corners)
+    × (map play commissionings ≡ commissionings)
+    × (map play everyCall ≡ everyCall)
+    × (map play asked ≡ asked)
+    × (map play jobs ≡ jobs)
+    × (map playFrom kept ≡ kept)
+    × Met
+unfolding le number joined every sameBytes entries idsIn nonceIn noncesIn shareIn responseIn requestIn shareRequestIn shareResponseIn messageIn responseWithin keyCount within decode headerBytes table packet idBytes nonceBytes shareBytes responseParts encodeResponse header parts encode encodeJob encodeNonceTimeout encodeInsufficientSigners headerIn partAt partsFrom tiles dkgOnly headed framed wholeEntries wholeShare wholeResponse responseLaidOut wholeRoot wholeLists laidOut typeOf rootLength member subset sameSet validPoint validNonce noncesValid accepted canMoveTo sameType typesAgree same find change insertBy insertAll remove without distinct next previous question1 question2 setSizes question3 ascendingSigners ascending numKeyIds question4 question5 question6 question7 asks before question9 question10 question11 fires question12 question13 question14 question15 admitted question19 question20 question21 question22 question24 question25 rootFor recvKeyIds shareKeyIds joinedKeys joinedNonces joinedShares whole startRound idleRequest idle nonceTimeout shareTimeout timeoutIn nonceVerdict recordVerdict onRecord onNonces shareVerdict anyWaits takeVerdict onTake onShares messageIn′ onMessage onPacket onAggregated onResults own onCommission onHeld stepOf final played leftIn play playFrom rounds corners commissionings everyCall asked jobs kept first plainOperation plainRequest groupKeyIn firstShareRequest orLater
+tables = (
+  refl,
+  refl,
+  refl,
+  refl,
+  refl,
+  refl,
+  refl,
+  record { opens = record { sends = refl; leaves = refl }; plain = (refl, refl, (refl, refl, tt)); sends = refl },
+)
 
 pub worked-rounds : map play rounds ≡ rounds
-unfolding le number put joined every sameBytes entries idsIn nonceIn noncesIn shareIn responseIn requestIn shareRequestIn shareResponseIn messageIn responseWithin keyCount within decode headerBytes table packet idBytes nonceBytes shareBytes responseParts encodeResponse header parts encode encodeJob encodeNonceTimeout encodeInsufficientSigners headerIn partAt partsFrom tiles dkgOnly headed framed wholeEntries wholeShare wholeResponse responseLaidOut wholeRoot wholeLists laidOut typeOf rootLength listed member subset sameSet validPoint validNonce noncesValid accepted canMoveTo states allowed sameType typesAgree same question1 setWithin question2 setSize setSizes question3 ascendingSet insertSigner ascendingSigners ascending configuredIn keySetIn numKeyIds recordOf removeWaiter insertResponse addResponse responded insertShares sharesOf corners nonceRequestIn shareRequestIn′ openedBy plainRequest groupKeyIn orLaterSent firstShareRequest rootFor keysIn recvKeyIds joinedKeys joinedNonces sharesIn joinedShares isHeld whole shareKeyIds insert insertAll remove without distinct next previous question4 question5 question6 question7 question9 question10 question11 isRecord question12 question13 question14 question15 admitted question19 question20 question21 question22 question24 question25 fires rounds tellings left iterationIn play signIdOf startRound waitersOf nonceTimeout shareTimeout timeoutIn idleRequest idle responsesOf recordResponse gatherNonces anyWaits takeShares gatherShares onResponse onShares messageIn′ onMessage orElse withPacket resultNumber typeOr onAggregated onResults yesNo own asks before unlessRefused onCommission onHeld stepOf step
-worked-rounds = refl
+worked-rounds = tables .0
 
 pub corner-rounds : map play corners ≡ corners
-unfolding le number put joined every sameBytes entries idsIn nonceIn noncesIn shareIn responseIn requestIn shareRequestIn shareResponseIn messageIn responseWithin keyCount within decode headerBytes table packet idBytes nonceBytes shareBytes responseParts encodeResponse header parts encode encodeJob encodeNonceTimeout encodeInsufficientSigners headerIn partAt partsFrom tiles dkgOnly headed framed wholeEntries wholeShare wholeResponse responseLaidOut wholeRoot wholeLists laidOut typeOf rootLength listed member subset sameSet validPoint validNonce noncesValid accepted canMoveTo states allowed sameType typesAgree same question1 setWithin question2 setSize setSizes question3 ascendingSet insertSigner ascendingSigners ascending configuredIn keySetIn numKeyIds recordOf removeWaiter insertResponse addResponse responded insertShares sharesOf corners nonceRequestIn shareRequestIn′ openedBy plainRequest groupKeyIn orLaterSent firstShareRequest rootFor keysIn recvKeyIds joinedKeys joinedNonces sharesIn joinedShares isHeld whole shareKeyIds insert insertAll remove without distinct next previous question4 question5 question6 question7 question9 question10 question11 isRecord question12 question13 question14 question15 admitted question19 question20 question21 question22 question24 question25 fires rounds tellings left iterationIn play signIdOf startRound waitersOf nonceTimeout shareTimeout timeoutIn idleRequest idle responsesOf recordResponse gatherNonces anyWaits takeShares gatherShares onResponse onShares messageIn′ onMessage orElse withPacket resultNumber typeOr onAggregated onResults yesNo own asks before unlessRefused onCommission onHeld stepOf step
-corner-rounds = refl
+corner-rounds = tables .1
+
+pub commissioning-rounds : map play commissionings ≡ commissionings
+commissioning-rounds = tables .2
+
+pub every-call-rounds : map play everyCall ≡ everyCall
+every-call-rounds = tables .3
+
+pub asked-rounds : map play asked ≡ asked
+asked-rounds = tables .4
+
+pub job-rounds : map play jobs ≡ jobs
+job-rounds = tables .5
+
+pub kept-rounds : map playFrom kept ≡ kept
+kept-rounds = tables .6
+
+pub demand-3-can-be-met : Met
+demand-3-can-be-met = tables .7

@@ -1,11 +1,13 @@
 -- The configuration (coordinator/mod.rs, Config, without the private key, which stays with the host), and commissioning's questions.
 use Prim.Native.Nat.{ℕ, _+_}
-use mathlib.Core.Bool.{Bool, true, false, cond, _&&_}
+use mathlib.Core.Bool.{Bool, _&&_}
 use mathlib.Core.List.{List, [], _∷_, map}
 use mathlib.Core.Option.{Option, some, none}
-use lib.Dec.{eqb, ltb, leb}
+use lib.Dec.{eqb, leb}
 use lib.ListN.{length}
 use Rattle.wire.specs.Bytes.{every}
+use Rattle.layout.specs.Limits.{listLimit, signerLimit}
+use Rattle.step_definition.specs.Lists.{isSome, given, find, insertBy}
 use Rattle.step_definition.specs.Ids.{insertAll, distinct}
 
 -- a signer with a public key. "A signer may have no key set entry", which is not the same as an empty set
@@ -34,43 +36,33 @@ pub record Config : Type 0 where
 abbrev pub signerId : SignerConfig → ℕ
 signerId s = s .id
 
+-- the keys of a key set entry; no entry has none
+abbrev pub keysIn : Option (List ℕ) → List ℕ
+keysIn entry = given entry (λ (keys : List ℕ). keys) []
+
 -- "at most 10 signers, ids distinct (1)?"
 unfoldable pub question1 : Config → Bool
-question1 g = leb (length (g .signers)) 10 && distinct (map signerId (g .signers))
-
-unfoldable pub setWithin : Option (List ℕ) → Bool
-setWithin none = true
-setWithin (some keys) = leb (length keys) 16 && distinct keys
+question1 g = leb (length (g .signers)) signerLimit && distinct (map signerId (g .signers))
 
 -- "Every key set at most 16 keys, none twice (2)?"
 unfoldable pub question2 : Config → Bool
-question2 g = every (λ (s : SignerConfig). setWithin (s .key-ids)) (g .signers)
-
--- a key set's size; no entry counts 0 keys
-unfoldable pub setSize : Option (List ℕ) → ℕ
-setSize none = 0
-setSize (some keys) = length keys
+question2 g = every (λ (s : SignerConfig). leb (length (keysIn (s .key-ids))) listLimit && distinct (keysIn (s .key-ids))) (g .signers)
 
 unfoldable pub setSizes : List SignerConfig → ℕ
 setSizes [] = 0
-setSizes (s ∷ ss) = setSize (s .key-ids) + setSizes ss
+setSizes (s ∷ ss) = length (keysIn (s .key-ids)) + setSizes ss
 
 -- "Set sizes together at most num_keys (3)?"
 unfoldable pub question3 : Config → Bool
 question3 g = leb (setSizes (g .signers)) (g .num-keys)
 
 -- the configuration is kept with its ids and each key set ascending, so that those that are equal as the Rust's maps and sets are equal
-unfoldable pub ascendingSet : Option (List ℕ) → Option (List ℕ)
-ascendingSet none = none
-ascendingSet (some keys) = some (insertAll keys [])
-
-unfoldable pub insertSigner : SignerConfig → List SignerConfig → List SignerConfig
-insertSigner s [] = s ∷ []
-insertSigner s (t ∷ ts) = cond (ltb (s .id) (t .id)) (s ∷ (t ∷ ts)) (t ∷ insertSigner s ts)
+abbrev pub ascendingSet : SignerConfig → SignerConfig
+ascendingSet s = record { id = s .id; key-ids = given (s .key-ids) (λ (keys : List ℕ). some (insertAll keys [])) none }
 
 unfoldable pub ascendingSigners : List SignerConfig → List SignerConfig
 ascendingSigners [] = []
-ascendingSigners (s ∷ ss) = insertSigner (record { id = s .id; key-ids = ascendingSet (s .key-ids) }) (ascendingSigners ss)
+ascendingSigners (s ∷ ss) = insertBy signerId (ascendingSet s) (ascendingSigners ss)
 
 unfoldable pub ascending : Config → Config
 ascending g =
@@ -85,23 +77,19 @@ ascending g =
       verify-packet-sigs = g .verify-packet-sigs;
     }
 
+-- the signer's entry in the configuration
+abbrev pub signerOf : Config → ℕ → Option SignerConfig
+signerOf g id = find (λ (s : SignerConfig). eqb id (s .id)) (g .signers)
+
 -- whether the signer has a public key in the configuration
-unfoldable pub configuredIn : ℕ → List SignerConfig → Bool
-configuredIn id [] = false
-configuredIn id (s ∷ ss) = cond (eqb id (s .id)) true (configuredIn id ss)
+abbrev pub configured : Config → ℕ → Bool
+configured g id = isSome (signerOf g id)
 
 -- the signer's key set entry
-unfoldable pub keySetIn : ℕ → List SignerConfig → Option (List ℕ)
-keySetIn id [] = none
-keySetIn id (s ∷ ss) = cond (eqb id (s .id)) (s .key-ids) (keySetIn id ss)
-
-abbrev pub configured : Config → ℕ → Bool
-configured g id = configuredIn id (g .signers)
-
 abbrev pub keySet : Config → ℕ → Option (List ℕ)
-keySet g id = keySetIn id (g .signers)
+keySet g id = given (signerOf g id) (λ (s : SignerConfig). s .key-ids) none
 
 -- compute_num_key_ids: the sizes of these signers' key sets, summed
 unfoldable pub numKeyIds : Config → List ℕ → ℕ
 numKeyIds g [] = 0
-numKeyIds g (id ∷ ids) = setSize (keySet g id) + numKeyIds g ids
+numKeyIds g (id ∷ ids) = length (keysIn (keySet g id)) + numKeyIds g ids

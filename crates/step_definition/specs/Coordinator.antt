@@ -1,16 +1,31 @@
 -- The coordinator as a value: the fields of fire.rs's Coordinator that signing uses, maps and sets as lists that ascend by signer id.
+-- Fields that change together stand together.
 use Prim.Native.Nat.{ℕ}
-use mathlib.Core.Bool.{Bool, true, false, cond}
-use mathlib.Core.List.{List, [], _∷_, map}
-use mathlib.Core.Option.{Option, some, none}
-use lib.Dec.{eqb, ltb}
+use mathlib.Core.Bool.{Bool, false}
+use mathlib.Core.List.{List, [], _∷_}
+use mathlib.Core.Option.{Option, none}
+use lib.Dec.{eqb}
 use Rattle.wire.specs.Bytes.{sameBytes}
 use Rattle.layout.specs.declared.Ids.{Ids}
 use Rattle.layout.specs.Messages.{NonceResponse, SignatureShare}
+use Rattle.layout.specs.Encode.{noIds}
 use Rattle.state_table.specs.declared.State.the-variants.{Idle}
 use Rattle.state_table.specs.States.{Position, position}
+use Rattle.step_definition.specs.Lists.{isSome, given, find, change, insertBy}
 use Rattle.step_definition.specs.Ids.{insert, remove}
 use Rattle.step_definition.specs.Configuration.{Config}
+
+-- the two held keys, "each kept as held or not, the bytes staying with the host"
+pub record Keys : Type 0 where
+  pub coordinator-public-key : Bool
+  pub aggregate-public-key : Bool
+
+-- what outlives a round: with the dkg id, the four things that demand 3 wants equal. malicious-signer-ids is 01's struck list
+pub record Standing : Type 0 where
+  pub config : Config
+  pub dkg-end-messages : List ℕ
+  pub keys : Keys
+  pub malicious-signer-ids : List ℕ
 
 -- SignRoundInfo: the responses to one message, each with its own ids, key ids and nonces as sent, and who is waited for. (The Rust's
 -- nonce_recv_key_ids is the union of the responders' key sets, which the configuration gives.)
@@ -24,28 +39,24 @@ pub record SignerShares : Type 0 where
   pub signer-id : ℕ
   pub signature-shares : List SignatureShare
 
--- the two held keys, "each kept as held or not, the bytes staying with the host"
-pub record Keys : Type 0 where
-  pub coordinator-public-key : Bool
-  pub aggregate-public-key : Bool
-
 -- when the nonces and when the shares were asked for
 pub record Clocks : Type 0 where
   pub nonce-start : Option ℕ
   pub sign-start : Option ℕ
 
--- job: whether a job is out
-pub record Coordinator : Type 0 where
-  pub config : Config
-  pub ids : Ids
-  pub position : Position
+-- a signing round: the message, what came, and since when it is waited for
+pub record Round : Type 0 where
   pub message : List ℕ
   pub message-nonces : List SignRoundInfo
   pub signature-shares : List SignerShares
-  pub malicious-signer-ids : List ℕ
-  pub dkg-end-messages : List ℕ
   pub clocks : Clocks
-  pub keys : Keys
+
+-- job: whether a job is out
+pub record Coordinator : Type 0 where
+  pub standing : Standing
+  pub ids : Ids
+  pub position : Position
+  pub round : Round
   pub job : Bool
 
 -- What a host holds. A struct whose counts are out of question 4's limits stands for no coordinator.
@@ -55,101 +66,135 @@ pub data Held : Type 0 where
   commissioned : Coordinator → Held
 
 -- "the fields are those that the Rust's `new` gives: Idle, ids 0, nothing held, nobody struck"
+abbrev pub noKeys : Keys
+noKeys = record { coordinator-public-key = false; aggregate-public-key = false }
+
+abbrev pub noClocks : Clocks
+noClocks = record { nonce-start = none; sign-start = none }
+
 abbrev pub fresh : Config → Coordinator
 fresh g =
     record {
-      config = g;
-      ids = record { «dkg_id» = 0; «sign_id» = 0; «sign_iter_id» = 0 };
+      standing = record { config = g; dkg-end-messages = []; keys = noKeys; malicious-signer-ids = [] };
+      ids = noIds;
       position = position Idle [];
-      message = [];
-      message-nonces = [];
-      signature-shares = [];
-      malicious-signer-ids = [];
-      dkg-end-messages = [];
-      clocks = record { nonce-start = none; sign-start = none };
-      keys = record { coordinator-public-key = false; aggregate-public-key = false };
+      round = record { message = []; message-nonces = []; signature-shares = []; clocks = noClocks };
       job = false;
     }
 
--- One setter for each group of fields that change together.
+-- One setter for each field of the coordinator, and one for each field that changes alone inside it.
+abbrev pub withStanding : Standing → Coordinator → Coordinator
+withStanding s c = record { standing = s; ids = c .ids; position = c .position; round = c .round; job = c .job }
+
 abbrev pub withIds : Ids → Coordinator → Coordinator
-withIds ids c =
-    record { config = c .config; ids = ids; position = c .position; message = c .message; message-nonces = c .message-nonces; signature-shares = c .signature-shares; malicious-signer-ids = c .malicious-signer-ids; dkg-end-messages = c .dkg-end-messages; clocks = c .clocks; keys = c .keys; job = c .job }
+withIds ids c = record { standing = c .standing; ids = ids; position = c .position; round = c .round; job = c .job }
 
 abbrev pub withPosition : Position → Coordinator → Coordinator
-withPosition p c =
-    record { config = c .config; ids = c .ids; position = p; message = c .message; message-nonces = c .message-nonces; signature-shares = c .signature-shares; malicious-signer-ids = c .malicious-signer-ids; dkg-end-messages = c .dkg-end-messages; clocks = c .clocks; keys = c .keys; job = c .job }
+withPosition p c = record { standing = c .standing; ids = c .ids; position = p; round = c .round; job = c .job }
 
-abbrev pub withMessage : List ℕ → Coordinator → Coordinator
-withMessage m c =
-    record { config = c .config; ids = c .ids; position = c .position; message = m; message-nonces = c .message-nonces; signature-shares = c .signature-shares; malicious-signer-ids = c .malicious-signer-ids; dkg-end-messages = c .dkg-end-messages; clocks = c .clocks; keys = c .keys; job = c .job }
+abbrev pub withRound : Round → Coordinator → Coordinator
+withRound r c = record { standing = c .standing; ids = c .ids; position = c .position; round = r; job = c .job }
 
-abbrev pub withRecords : List SignRoundInfo → Coordinator → Coordinator
-withRecords rs c =
-    record { config = c .config; ids = c .ids; position = c .position; message = c .message; message-nonces = rs; signature-shares = c .signature-shares; malicious-signer-ids = c .malicious-signer-ids; dkg-end-messages = c .dkg-end-messages; clocks = c .clocks; keys = c .keys; job = c .job }
-
-abbrev pub withShares : List SignerShares → Coordinator → Coordinator
-withShares ss c =
-    record { config = c .config; ids = c .ids; position = c .position; message = c .message; message-nonces = c .message-nonces; signature-shares = ss; malicious-signer-ids = c .malicious-signer-ids; dkg-end-messages = c .dkg-end-messages; clocks = c .clocks; keys = c .keys; job = c .job }
-
-abbrev pub withMalicious : List ℕ → Coordinator → Coordinator
-withMalicious ids c =
-    record { config = c .config; ids = c .ids; position = c .position; message = c .message; message-nonces = c .message-nonces; signature-shares = c .signature-shares; malicious-signer-ids = ids; dkg-end-messages = c .dkg-end-messages; clocks = c .clocks; keys = c .keys; job = c .job }
-
-abbrev pub withEnded : List ℕ → Coordinator → Coordinator
-withEnded ids c =
-    record { config = c .config; ids = c .ids; position = c .position; message = c .message; message-nonces = c .message-nonces; signature-shares = c .signature-shares; malicious-signer-ids = c .malicious-signer-ids; dkg-end-messages = ids; clocks = c .clocks; keys = c .keys; job = c .job }
-
-abbrev pub withClocks : Clocks → Coordinator → Coordinator
-withClocks k c =
-    record { config = c .config; ids = c .ids; position = c .position; message = c .message; message-nonces = c .message-nonces; signature-shares = c .signature-shares; malicious-signer-ids = c .malicious-signer-ids; dkg-end-messages = c .dkg-end-messages; clocks = k; keys = c .keys; job = c .job }
+abbrev pub withJob : Bool → Coordinator → Coordinator
+withJob j c = record { standing = c .standing; ids = c .ids; position = c .position; round = c .round; job = j }
 
 abbrev pub withKeys : Keys → Coordinator → Coordinator
 withKeys k c =
-    record { config = c .config; ids = c .ids; position = c .position; message = c .message; message-nonces = c .message-nonces; signature-shares = c .signature-shares; malicious-signer-ids = c .malicious-signer-ids; dkg-end-messages = c .dkg-end-messages; clocks = c .clocks; keys = k; job = c .job }
+    let s = c .standing in
+    withStanding
+    (record { config = s .config; dkg-end-messages = s .dkg-end-messages; keys = k; malicious-signer-ids = s .malicious-signer-ids }) c
 
-abbrev pub withJob : Bool → Coordinator → Coordinator
-withJob j c =
-    record { config = c .config; ids = c .ids; position = c .position; message = c .message; message-nonces = c .message-nonces; signature-shares = c .signature-shares; malicious-signer-ids = c .malicious-signer-ids; dkg-end-messages = c .dkg-end-messages; clocks = c .clocks; keys = c .keys; job = j }
+abbrev pub withEnded : List ℕ → Coordinator → Coordinator
+withEnded ended c =
+    let s = c .standing in
+    withStanding (record { config = s .config; dkg-end-messages = ended; keys = s .keys; malicious-signer-ids = s .malicious-signer-ids }) c
 
--- The record of a message.
-unfoldable pub recordOf : List ℕ → List SignRoundInfo → Option SignRoundInfo
-recordOf m [] = none
-recordOf m (r ∷ rs) = cond (sameBytes m (r .message)) (some r) (recordOf m rs)
+abbrev pub withMalicious : List ℕ → Coordinator → Coordinator
+withMalicious ids c =
+    let s = c .standing in
+    withStanding (record { config = s .config; dkg-end-messages = s .dkg-end-messages; keys = s .keys; malicious-signer-ids = ids }) c
 
--- the waiter taken off the record of a message
-unfoldable pub removeWaiter : List ℕ → ℕ → List SignRoundInfo → List SignRoundInfo
-removeWaiter m id [] = []
-removeWaiter m id (r ∷ rs) =
-    cond (sameBytes m (r .message))
-    (record { message = r .message; public-nonces = r .public-nonces; sign-wait-signer-ids = remove id (r .sign-wait-signer-ids) } ∷ rs)
-    (r ∷ removeWaiter m id rs)
+abbrev pub withMessage : List ℕ → Coordinator → Coordinator
+withMessage m c =
+    let r = c .round in
+    withRound (record { message = m; message-nonces = r .message-nonces; signature-shares = r .signature-shares; clocks = r .clocks }) c
 
--- a response in its place by signer id
-unfoldable pub insertResponse : NonceResponse → List NonceResponse → List NonceResponse
-insertResponse r [] = r ∷ []
-insertResponse r (q ∷ qs) = cond (ltb (r .signer-id) (q .signer-id)) (r ∷ (q ∷ qs)) (q ∷ insertResponse r qs)
+abbrev pub withRecords : List SignRoundInfo → Coordinator → Coordinator
+withRecords rs c =
+    let r = c .round in
+    withRound (record { message = r .message; message-nonces = rs; signature-shares = r .signature-shares; clocks = r .clocks }) c
 
--- a response put on the record of its message, which is opened where there is none; its signer is waited for
-unfoldable pub addResponse : NonceResponse → List SignRoundInfo → List SignRoundInfo
-addResponse q [] = record { message = q .message; public-nonces = q ∷ []; sign-wait-signer-ids = q .signer-id ∷ [] } ∷ []
-addResponse q (r ∷ rs) =
-    cond (sameBytes (q .message) (r .message))
-    (record { message = r .message; public-nonces = insertResponse q (r .public-nonces); sign-wait-signer-ids = insert (q .signer-id) (r .sign-wait-signer-ids) } ∷ rs)
-    (r ∷ addResponse q rs)
+abbrev pub withShares : List SignerShares → Coordinator → Coordinator
+withShares ss c =
+    let r = c .round in
+    withRound (record { message = r .message; message-nonces = r .message-nonces; signature-shares = ss; clocks = r .clocks }) c
 
-unfoldable pub responded : ℕ → List NonceResponse → Bool
-responded id [] = false
-responded id (q ∷ qs) = cond (eqb id (q .signer-id)) true (responded id qs)
+abbrev pub withClocks : Clocks → Coordinator → Coordinator
+withClocks k c =
+    let r = c .round in
+    withRound (record { message = r .message; message-nonces = r .message-nonces; signature-shares = r .signature-shares; clocks = k }) c
+
+abbrev pub withSignId : ℕ → Coordinator → Coordinator
+withSignId n c = withIds (record { «dkg_id» = c .ids .«dkg_id»; «sign_id» = n; «sign_iter_id» = c .ids .«sign_iter_id» }) c
+
+abbrev pub withIteration : ℕ → Coordinator → Coordinator
+withIteration n c = withIds (record { «dkg_id» = c .ids .«dkg_id»; «sign_id» = c .ids .«sign_id»; «sign_iter_id» = n }) c
+
+abbrev pub withDkgId : ℕ → Coordinator → Coordinator
+withDkgId n c = withIds (record { «dkg_id» = n; «sign_id» = c .ids .«sign_id»; «sign_iter_id» = c .ids .«sign_iter_id» }) c
+
+-- Records. The record of a message; its responses and its waiters, none where there is no record
+abbrev pub isFor : List ℕ → SignRoundInfo → Bool
+isFor m r = sameBytes m (r .message)
+
+abbrev pub recordOf : List ℕ → List SignRoundInfo → Option SignRoundInfo
+recordOf m rs = find (isFor m) rs
+
+abbrev pub responsesOf : Option SignRoundInfo → List NonceResponse
+responsesOf o = given o (λ (r : SignRoundInfo). r .public-nonces) []
+
+abbrev pub waitersOf : Option SignRoundInfo → List ℕ
+waitersOf o = given o (λ (r : SignRoundInfo). r .sign-wait-signer-ids) []
+
+-- the record of the current message
+abbrev pub currentRecord : Coordinator → Option SignRoundInfo
+currentRecord c = recordOf (c .round .message) (c .round .message-nonces)
 
 abbrev pub responderId : NonceResponse → ℕ
-responderId r = r .signer-id
+responderId q = q .signer-id
 
--- a signer's shares in their place, and found
-unfoldable pub insertShares : SignerShares → List SignerShares → List SignerShares
-insertShares s [] = s ∷ []
-insertShares s (t ∷ ts) = cond (ltb (s .signer-id) (t .signer-id)) (s ∷ (t ∷ ts)) (t ∷ insertShares s ts)
+-- whether the signer is among the responders
+abbrev pub responded : ℕ → List NonceResponse → Bool
+responded id qs = isSome (find (λ (q : NonceResponse). eqb id (q .signer-id)) qs)
 
-unfoldable pub sharesOf : ℕ → List SignerShares → Option (List SignatureShare)
-sharesOf id [] = none
-sharesOf id (s ∷ ss) = cond (eqb id (s .signer-id)) (some (s .signature-shares)) (sharesOf id ss)
+-- a response in its place by signer id; its signer is waited for
+abbrev pub withResponse : NonceResponse → SignRoundInfo → SignRoundInfo
+withResponse q r =
+    record {
+      message = r .message;
+      public-nonces = insertBy responderId q (r .public-nonces);
+      sign-wait-signer-ids = insert (q .signer-id) (r .sign-wait-signer-ids);
+    }
+
+abbrev pub withoutWaiter : ℕ → SignRoundInfo → SignRoundInfo
+withoutWaiter id r =
+    record { message = r .message; public-nonces = r .public-nonces; sign-wait-signer-ids = remove id (r .sign-wait-signer-ids) }
+
+-- a record with its first response
+abbrev pub opened : NonceResponse → SignRoundInfo
+opened q = record { message = q .message; public-nonces = q ∷ []; sign-wait-signer-ids = q .signer-id ∷ [] }
+
+-- a response put on the record of its message, which is opened where there is none
+abbrev pub addResponse : NonceResponse → List SignRoundInfo → List SignRoundInfo
+addResponse q rs = change (isFor (q .message)) (withResponse q) (opened q ∷ []) rs
+
+-- the waiter taken off the record of a message
+abbrev pub removeWaiter : List ℕ → ℕ → List SignRoundInfo → List SignRoundInfo
+removeWaiter m id rs = change (isFor m) (withoutWaiter id) [] rs
+
+-- Shares. What a signer sent, if it is held
+abbrev pub sharesBy : ℕ → List SignerShares → Option SignerShares
+sharesBy id held = find (λ (s : SignerShares). eqb id (s .signer-id)) held
+
+abbrev pub sharerId : SignerShares → ℕ
+sharerId s = s .signer-id

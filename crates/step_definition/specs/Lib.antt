@@ -1,16 +1,28 @@
--- The signing phase, document 01's sections in its order: the configuration and the coordinator as values; calls and answers; each
--- question with its number; what a call does (the step); runs; the round's book of demand 3; the worked rounds.
+-- The signing phase as definitions, document 01's sections in its order: the configuration and the coordinator as values; calls and
+-- answers; each question with its number; what a call does (the step), call by call; what a refusal changes; runs; demand 3 with the
+-- round's book; who may be marked; the worked rounds, and a round for each clause, table by table.
+pub mod Lists
 pub mod Ids
 pub mod Configuration
 pub mod Coordinator
 pub mod Calls
+pub mod Phases
 pub mod Questions
+pub mod Counts
 pub mod Effects
+pub mod Starts
+pub mod Timeouts
+pub mod NonceGather
+pub mod SigShareGather
 pub mod Step
-pub mod Run
 pub mod Refusals
+pub mod Run
 pub mod ResponseLog
 pub mod Demand3
 pub mod Silence
 pub mod Rounds
 pub mod Corners
+pub mod EveryCall
+pub mod Asked
+pub mod Kept
+pub mod Jobs

@@ -1,87 +1,191 @@
--- 01's worked rounds marked P: calls from commissioning on, and what they answer. "Signers 0, 1, 2; keys {1}, {2, 3}, {4}; num_keys 4, both
--- thresholds 3, both timeouts 10."
+-- 01's worked rounds marked P: calls from commissioning on, and what they tell. "Signers 0, 1, 2; keys {1}, {2, 3}, {4}; num_keys 4, both
+-- thresholds 3, both timeouts 10." First the words in which this round and those of the other tables are told.
 use Prim.Native.Nat.{ℕ, _^_, _-_}
 use mathlib.Core.Bool.{Bool, true, false}
 use mathlib.Core.List.{List, [], _∷_, _++_, map}
 use mathlib.Core.Option.{Option, some, none}
 use lib.ListN.{replicate, drop}
+use Rattle.layout.specs.Limits.{storeLength, answerLength}
 use Rattle.layout.specs.declared.Ids.{Ids}
+use Rattle.layout.specs.declared.SignatureType.{SignatureType}
 use Rattle.layout.specs.declared.SignatureType.the-variants.{Frost}
-use Rattle.layout.specs.Messages.{Nonce, SignatureShare, NonceResponse, NonceRequest, SignatureShareRequest, Job, nonceRequest, nonceResponse, signatureShareRequest, signatureShareResponse}
+use Rattle.layout.specs.Messages.{Nonce, SignatureShare, NonceResponse, NonceRequest, SignatureShareRequest, Job, Message}
+use Rattle.layout.specs.Messages.{nonceRequest, nonceResponse, signatureShareRequest, signatureShareResponse}
 use Rattle.layout.specs.Encode.{encode, encodeJob, encodeNonceTimeout, encodeInsufficientSigners}
 use Rattle.validity.specs.Nonces.{generator}
 use Rattle.step_definition.specs.Configuration.{Config, SignerConfig}
 use Rattle.step_definition.specs.Coordinator.{Held, uncommissioned, miscounted, commissioned}
-use Rattle.step_definition.specs.Calls.{Request, commission, setCoordinatorKey, setAggregateKey, takeResults, startSigning, process, processTimeout, processMessage, Call, nothing, packet, job, result, error, Answer, Event, recorded, sharesTaken, marked, requested, retried, shareRequested, jobWritten, plain, refusing, sending}
+use Rattle.step_definition.specs.Calls.{process, processMessage, coordinatorKey, aggregateKey, Request, commission, other, Call}
+use Rattle.step_definition.specs.Calls.{Operation, setKey, takeResults, startSigning, receive, processTimeout}
+use Rattle.step_definition.specs.Calls.{packet, result, error, Answer, plain, refusing, sending, handing, telling}
+use Rattle.step_definition.specs.Calls.{Event, recorded, sharesTaken, marked, requested, retried, shareRequested, jobWritten}
 use Rattle.step_definition.specs.Step.{step}
+use Rattle.step_definition.specs.Run.{final}
 
+-- Configurations.
 abbrev pub signer : ℕ → List ℕ → SignerConfig
 signer id keys = record { id = id; key-ids = some keys }
 
-abbrev pub example : Config
-example =
+-- with num_keys, the threshold that limits exclusion and the one that ends gathering, the nonce and the share timeout, the signers, and
+-- whether packets are verified
+abbrev pub configuration : ℕ → ℕ → ℕ → Option ℕ → Option ℕ → List SignerConfig → Bool → Config
+configuration num-keys threshold sign-threshold nonce sign signers verify =
     record {
       num-signers = 3;
-      num-keys = 4;
-      threshold = 3;
-      dkg-threshold = 4;
-      sign-threshold = 3;
-      timeouts = record { dkg-public = none; dkg-private = none; dkg-end = none; nonce = some 10; sign = some 10 };
-      signers = signer 0 (1 ∷ []) ∷ signer 1 (2 ∷ 3 ∷ []) ∷ signer 2 (4 ∷ []) ∷ [];
-      verify-packet-sigs = true;
+      num-keys = num-keys;
+      threshold = threshold;
+      dkg-threshold = num-keys;
+      sign-threshold = sign-threshold;
+      timeouts = record { dkg-public = none; dkg-private = none; dkg-end = none; nonce = nonce; sign = sign };
+      signers = signers;
+      verify-packet-sigs = verify;
     }
 
--- a call at a clock reading, buffers at full size, the host's verdict good
-abbrev pub at : ℕ → Request → Call
-at now r = record { request = r; clock = now; verdict = true; store = 52224; room = 19232 }
+abbrev pub three : List SignerConfig
+three = signer 0 (1 ∷ []) ∷ signer 1 (2 ∷ 3 ∷ []) ∷ signer 2 (4 ∷ []) ∷ []
+
+abbrev pub example : Config
+example = configuration 4 3 3 (some 10) (some 10) three true
+
+-- Calls. With a clock reading, the host's verdict, the lengths of store and answer buffer that are lent
+abbrev pub lending : ℕ → Bool → ℕ → ℕ → Request → Call
+lending now verdict store room r = record { request = r; clock = now; verdict = verdict; store = store; room = room }
+
+-- buffers at full size, the verdict good
+abbrev pub calling : ℕ → Request → Call
+calling now r = lending now true storeLength answerLength r
+
+abbrev pub at : ℕ → Operation → Call
+at now o = calling now (other o)
+
+-- a message brought by `process_message`, and by `process`
+abbrev pub sends : ℕ → Message → Call
+sends now m = at now (receive processMessage (encode m))
+
+abbrev pub processes : ℕ → Message → Call
+processes now m = at now (receive process (encode m))
+
+-- a start of a message, with its type, its root, and a sign id or none
+abbrev pub starts : ℕ → List ℕ → SignatureType → List ℕ → Option ℕ → Call
+starts now message t root id = at now (startSigning (record { message = message; signature-type = t; root = root; sign-id = id }))
+
+-- What is sent. dkg id, sign id, iteration
+abbrev pub idsOf : ℕ → ℕ → ℕ → Ids
+idsOf dkg sign iteration = record { «dkg_id» = dkg; «sign_id» = sign; «sign_iter_id» = iteration }
 
 abbrev pub ids : ℕ → Ids
-ids iteration = record { «dkg_id» = 1; «sign_id» = 1; «sign_iter_id» = iteration }
+ids iteration = idsOf 1 1 iteration
+
+-- messages
+abbrev pub nine : List ℕ
+nine = 9 ∷ []
+
+abbrev pub five : List ℕ
+five = 5 ∷ []
+
+-- a Taproot root
+abbrev pub root : List ℕ
+root = replicate 32 6
 
 -- points and scalars stand as bytes that are neither identity nor G
 abbrev pub point : List ℕ
 point = replicate 33 2
 
-abbrev pub good : Nonce
-good = record { D = point; E = point }
+abbrev pub nonce : List ℕ → List ℕ → Nonce
+nonce D E = record { D = D; E = E }
 
--- a response to a message (one byte) by a signer, for these keys, with this nonce
-abbrev pub respond : ℕ → ℕ → List ℕ → Nonce → NonceResponse
-respond message id keys nonce = record { ids = ids 1; signer-id = id; message = message ∷ []; key-ids = keys; nonces = nonce ∷ [] }
+abbrev pub good : Nonce
+good = nonce point point
+
+abbrev pub responseOf : Ids → ℕ → List ℕ → List ℕ → List Nonce → NonceResponse
+responseOf i id message keys nonces = record { ids = i; signer-id = id; message = message; key-ids = keys; nonces = nonces }
+
+-- a signer's response to message 9, for these keys, with this nonce
+abbrev pub respond : ℕ → List ℕ → Nonce → NonceResponse
+respond id keys n = responseOf (ids 1) id nine keys (n ∷ [])
+
+abbrev pub q0 : NonceResponse
+q0 = respond 0 (1 ∷ []) good
+
+abbrev pub q1 : NonceResponse
+q1 = respond 1 (2 ∷ 3 ∷ []) good
+
+abbrev pub q2 : NonceResponse
+q2 = respond 2 (4 ∷ []) good
+
+-- a response with other ids; to another message
+abbrev pub under : Ids → NonceResponse → NonceResponse
+under i q = responseOf i (q .signer-id) (q .message) (q .key-ids) (q .nonces)
+
+abbrev pub to : List ℕ → NonceResponse → NonceResponse
+to message q = responseOf (q .ids) (q .signer-id) message (q .key-ids) (q .nonces)
 
 abbrev pub answers : ℕ → NonceResponse → Call
-answers now q = at now (processMessage (encode (nonceResponse q)))
+answers now q = sends now (nonceResponse q)
 
 abbrev pub share : ℕ → List ℕ → SignatureShare
 share id keys = record { id = id; z-i = replicate 32 7; key-ids = keys }
 
-abbrev pub shares : ℕ → ℕ → List ℕ → Call
-shares now id keys =
-    at now (processMessage (encode (signatureShareResponse (record { ids = ids 1; signer-id = id; signature-shares = share id keys ∷ [] }))))
+abbrev pub sharesOf : Ids → ℕ → List SignatureShare → Message
+sharesOf i id ss = signatureShareResponse (record { ids = i; signer-id = id; signature-shares = ss })
 
--- commissioned, keys held, key generation ended, and the round for message 9 begun at clock 0
-abbrev pub ready : List Call
-ready =
-    at 0 (commission example)
-    ∷ at 0 (setCoordinatorKey true)
-    ∷ at 0 (setAggregateKey true)
-    ∷ at 0 (takeResults 1 (0 ∷ 1 ∷ 2 ∷ []))
+-- a signer's one share, for these keys
+abbrev pub shares : ℕ → ℕ → List ℕ → Call
+shares now id keys = sends now (sharesOf (ids 1) id (share id keys ∷ []))
+
+-- the good shares of the first two signers of the example
+abbrev pub shares0 : Call
+shares0 = shares 0 0 (1 ∷ [])
+
+abbrev pub shares1 : Call
+shares1 = shares 0 1 (2 ∷ 3 ∷ [])
+
+abbrev pub request : Ids → List ℕ → SignatureType → List ℕ → NonceRequest
+request i message t root = record { ids = i; message = message; signature-type = t; root = root }
+
+abbrev pub request9 : ℕ → NonceRequest
+request9 iteration = request (ids iteration) nine Frost []
+
+abbrev pub shareRequest : Ids → List ℕ → SignatureType → List ℕ → List NonceResponse → SignatureShareRequest
+shareRequest i message t root qs = record { ids = i; message = message; signature-type = t; root = root; nonce-responses = qs }
+
+abbrev pub shares9 : List NonceResponse → SignatureShareRequest
+shares9 qs = shareRequest (ids 1) nine Frost [] qs
+
+abbrev pub jobOf : Ids → List ℕ → SignatureType → List ℕ → List ℕ → List Nonce → List SignatureShare → Job
+jobOf i message t root keys nonces ss =
+    record { ids = i; message = message; signature-type = t; root = root; key-ids = keys; nonces = nonces; signature-shares = ss }
+
+-- of 0 and 1, with these shares
+abbrev pub job9 : List SignatureShare → Job
+job9 ss = jobOf (ids 1) nine Frost [] (1 ∷ 2 ∷ 3 ∷ []) (good ∷ good ∷ []) ss
+
+-- Openings. Commissioned, keys held, key generation ended; and then a round for message 9 begun at clock 0
+abbrev pub readyOf : Config → List ℕ → List Call
+readyOf g ended =
+    calling 0 (commission g)
+    ∷ at 0 (setKey coordinatorKey true)
+    ∷ at 0 (setKey aggregateKey true)
+    ∷ at 0 (takeResults 1 ended)
     ∷ []
 
-abbrev pub begun : List Call
-begun = ready ++ (at 0 (startSigning (record { message = 9 ∷ []; signature-type = Frost; root = []; sign-id = none })) ∷ [])
+abbrev pub begunOf : Config → List ℕ → List Call
+begunOf g ended = readyOf g ended ++ (starts 0 nine Frost [] none ∷ [])
 
--- what is expected of a call: its answer and what happened
+abbrev pub ready : List Call
+ready = readyOf example (0 ∷ 1 ∷ 2 ∷ [])
+
+abbrev pub begun : List Call
+begun = begunOf example (0 ∷ 1 ∷ 2 ∷ [])
+
+-- gathered from 0 and 1, the share request sent at clock 0
+abbrev pub gathered : List Call
+gathered = begun ++ (answers 0 q0 ∷ answers 0 q1 ∷ [])
+
+-- What a call tells: its answer, and what happened.
 pub record Told : Type 0 where
   pub answer : Answer
   pub events : List Event
-
--- a round: calls before, calls that are looked at, what each tells, and the iteration in the end
-pub record Round : Type 0 where
-  pub opening : List Call
-  pub calls : List Call
-  pub told : List Told
-  pub iteration : ℕ
 
 abbrev pub tells : Answer → List Event → Told
 tells a es = record { answer = a; events = es }
@@ -89,124 +193,205 @@ tells a es = record { answer = a; events = es }
 abbrev pub nothingTold : Told
 nothingTold = tells plain []
 
-abbrev pub record-of : ℕ → Told
-record-of id = tells plain (recorded id ∷ [])
+-- an error with a number; with values; a result with a number and values
+abbrev pub refuses : ℕ → Told
+refuses n = tells (refusing error n []) []
 
--- the nonce request of message 9 with an iteration, and its share request
-abbrev pub request9 : ℕ → NonceRequest
-request9 iteration = record { ids = ids iteration; message = 9 ∷ []; signature-type = Frost; root = [] }
+abbrev pub refusesWith : ℕ → List ℕ → Told
+refusesWith n values = tells (refusing error n values) []
 
-abbrev pub nonces-asked : ℕ → Answer
-nonces-asked iteration = sending packet (encode (nonceRequest (request9 iteration)))
+abbrev pub fails : ℕ → List ℕ → Told
+fails n values = tells (refusing result n values) []
 
-abbrev pub shares9 : List NonceResponse → SignatureShareRequest
-shares9 qs = record { ids = ids 1; message = 9 ∷ []; signature-type = Frost; root = []; nonce-responses = qs }
+-- a value: a result kind, yes (1) or no (0)
+abbrev pub saying : ℕ → Told
+saying n = tells (telling (n ∷ [])) []
 
-abbrev pub job9 : Job
-job9 =
-    record { ids = ids 1; message = 9 ∷ []; signature-type = Frost; root = []; key-ids = 1 ∷ 2 ∷ 3 ∷ []; nonces = good ∷ good ∷ []; signature-shares = share 0 (1 ∷ []) ∷ [] }
+-- a nonce request leaves; after a share timeout that newly marked these
+abbrev pub noncesAsked : NonceRequest → Told
+noncesAsked r = tells (sending packet (encode (nonceRequest r))) (requested r ∷ [])
 
-abbrev pub q0 : NonceResponse
-q0 = respond 9 0 (1 ∷ []) good
+abbrev pub retriedWith : List ℕ → NonceRequest → Told
+retriedWith new r = tells (sending packet (encode (nonceRequest r))) (marked new ∷ requested r ∷ retried ∷ [])
 
-abbrev pub q1 : NonceResponse
-q1 = respond 9 1 (2 ∷ 3 ∷ []) good
+-- a signer's response is recorded; with it the share request leaves
+abbrev pub recordedOf : ℕ → Told
+recordedOf id = tells plain (recorded id ∷ [])
 
-abbrev pub q2 : NonceResponse
-q2 = respond 9 2 (4 ∷ []) good
+abbrev pub sharesAsked : ℕ → SignatureShareRequest → Told
+sharesAsked id r = tells (sending packet (encode (signatureShareRequest r))) (recorded id ∷ shareRequested r ∷ [])
 
--- gathered from 0 and 1, the share request sent at clock 0
-abbrev pub gathered : List Call
-gathered = begun ++ (answers 0 q0 ∷ answers 0 q1 ∷ [])
+-- a signer's shares are taken; with them the job goes out, with its mark
+abbrev pub takenOf : ℕ → Told
+takenOf id = tells plain (sharesTaken id ∷ [])
 
-abbrev pub round : List Call → List Call → List Told → ℕ → Round
-round before calls told iteration = record { opening = before; calls = calls; told = told; iteration = iteration }
+abbrev pub jobGiven : ℕ → Bool → Job → Told
+jobGiven id whole j = tells (handing whole (encodeJob j)) (sharesTaken id ∷ jobWritten j ∷ [])
 
-abbrev pub elsewhere : ℕ → Call
-elsewhere iteration =
-    at 0
-    (processMessage (encode (nonceRequest (request9 iteration))))
+-- NonceTimeout with waiters and struck; InsufficientSigners with the struck, of whom these are new
+abbrev pub noncesLate : List ℕ → List ℕ → Told
+noncesLate waiters malicious = tells (sending result (encodeNonceTimeout waiters malicious)) []
 
-unfoldable pub rounds : List Round
-rounds =
-    -- elapsed 10 nothing, 11 fires
-    round (begun ++ (answers 0 q0 ∷ []))
-    (at 10 processTimeout ∷ at 11 processTimeout ∷ [])
-    (nothingTold ∷ tells (sending result (encodeNonceTimeout (0 ∷ []) [])) [] ∷ [])
-    1
-    -- 0 and 2 answer: 2 keys, gathering
-    ∷ round begun (answers 0 q0 ∷ answers 0 q2 ∷ []) (record-of 0 ∷ record-of 2 ∷ []) 1
-    -- 0 and 1: 3 keys, request leaves
-    ∷ round begun
-    (answers 0 q0 ∷ answers 0 q1 ∷ [])
-    (record-of 0 ∷ tells (sending packet (encode (signatureShareRequest (shares9 (q0 ∷ q1 ∷ []))))) (recorded 1 ∷ shareRequested (shares9 (q0 ∷ q1 ∷ [])) ∷ []) ∷ [])
-    1
-    -- 1 lists 3, 2, 3: recorded
-    ∷ round begun (answers 0 (respond 9 1 (3 ∷ 2 ∷ 3 ∷ []) good) ∷ []) (record-of 1 ∷ []) 1
-    -- lists 2: nothing
-    ∷ round begun (answers 0 (respond 9 1 (2 ∷ []) good) ∷ []) (nothingTold ∷ []) 1
-    -- D = G: nothing
-    ∷ round begun (answers 0 (respond 9 0 (1 ∷ []) (record { D = generator; E = point })) ∷ []) (nothingTold ∷ []) 1
-    -- D with first byte 03, G otherwise: recorded
-    ∷ round begun (answers 0 (respond 9 0 (1 ∷ []) (record { D = 3 ∷ drop 1 generator; E = point })) ∷ []) (record-of 0 ∷ []) 1
-    -- after 0 and 1, only 0 silent: 4 − 1 = 3, retry
-    ∷ round gathered
-    (shares 0 1 (2 ∷ 3 ∷ []) ∷ at 11 processTimeout ∷ [])
-    (tells plain (sharesTaken 1 ∷ []) ∷ tells (nonces-asked 2) (marked (0 ∷ []) ∷ requested (request9 2) ∷ retried ∷ []) ∷ [])
-    2
-    -- only 1 silent: 2, InsufficientSigners
-    ∷ round gathered
-    (shares 0 0 (1 ∷ []) ∷ at 11 processTimeout ∷ [])
-    (tells plain (sharesTaken 0 ∷ []) ∷ tells (sending result (encodeInsufficientSigners (1 ∷ []))) (marked (1 ∷ []) ∷ []) ∷ [])
-    1
-    -- nonce timeout, no response: 12
-    ∷ round begun (at 11 processTimeout ∷ []) (tells (refusing error 12 []) [] ∷ []) 1
-    -- 1 shares only key 2: 22; then 0's good shares: job, whole no
-    ∷ round gathered
-    (shares 0 1 (2 ∷ []) ∷ shares 0 0 (1 ∷ []) ∷ [])
-    (tells (refusing result 22 (1 ∷ [])) []
-    ∷ tells
-    (record {
-      class = job;
-      number = 0;
-      values = [];
-      mark = false;
-      bytes = encodeJob job9;
-    })
-    (sharesTaken 0 ∷ jobWritten job9 ∷ [])
-    ∷ [])
-    1
-    -- Idle request, iteration 0: sent with 0
-    ∷ round ready (elsewhere 0 ∷ []) (tells (nonces-asked 0) (requested (request9 0) ∷ []) ∷ []) 0
-    -- with no group key 10, and 2^64 − 1 is left
-    ∷ round (ready ++ (at 0 (setAggregateKey false) ∷ [])) (elsewhere 0 ∷ []) (tells (refusing error 10 []) [] ∷ []) (2 ^ 64 - 1)
-    -- 0 answers four messages, then a fifth: 19
-    ∷ round begun
-    (answers 0 (respond 1 0 (1 ∷ []) good)
-    ∷ answers 0 (respond 2 0 (1 ∷ []) good)
-    ∷ answers 0 (respond 3 0 (1 ∷ []) good)
-    ∷ answers 0 (respond 4 0 (1 ∷ []) good)
-    ∷ answers 0 (respond 5 0 (1 ∷ []) good)
-    ∷ [])
-    (record-of 0 ∷ record-of 0 ∷ record-of 0 ∷ record-of 0 ∷ tells (refusing error 19 []) [] ∷ [])
-    1
-    ∷ []
+abbrev pub insufficient : List ℕ → List ℕ → Told
+insufficient new malicious = tells (sending result (encodeInsufficientSigners malicious)) (marked new ∷ [])
 
--- what a list of calls tells, and what it leaves
-unfoldable pub tellings : List Call → Held → List Told
-tellings [] h = []
-tellings (k ∷ ks) h = record { answer = step k h .answer; events = step k h .events } ∷ tellings ks (step k h .after)
+-- A call with what it tells: `call ⇒ told`.
+pub record Line : Type 0 where
+  pub call : Call
+  pub told : Told
 
-unfoldable pub left : List Call → Held → Held
-left [] h = h
-left (k ∷ ks) h = left ks (step k h .after)
+infix 68 _⇒_
+abbrev pub _⇒_ : Call → Told → Line
+_⇒_ k t = record { call = k; told = t }
 
-unfoldable pub iterationIn : Held → ℕ
-iterationIn uncommissioned = 0
-iterationIn miscounted = 0
-iterationIn (commissioned c) = c .ids .«sign_iter_id»
+-- What is left in the end of a coordinator: its ids, its message and whom it has marked.
+pub record Left : Type 0 where
+  pub ids : Ids
+  pub message : List ℕ
+  pub malicious : List ℕ
+
+abbrev pub left : Ids → List ℕ → List ℕ → Option Left
+left i message malicious = some (record { ids = i; message = message; malicious = malicious })
+
+-- message 9 in this iteration, nobody marked
+abbrev pub left9 : ℕ → Option Left
+left9 iteration = left (ids iteration) nine []
+
+unfoldable pub leftIn : Held → Option Left
+leftIn uncommissioned = none
+leftIn miscounted = none
+leftIn (commissioned c) = left (c .ids) (c .round .message) (c .standing .malicious-signer-ids)
+
+-- A round: the calls that open it, the calls that are looked at, each with what it tells, and what is left.
+pub record Round : Type 0 where
+  pub opening : List Call
+  pub lines : List Line
+  pub end : Option Left
+
+abbrev pub round : List Call → List Line → Option Left → Round
+round opening lines end = record { opening = opening; lines = lines; end = end }
+
+-- the same from something held that calls may never leave, with all that is held in the end
+pub record From : Type 0 where
+  pub held : Held
+  pub lines : List Line
+  pub after : Held
+
+abbrev pub from : Held → List Line → Held → From
+from held lines after = record { held = held; lines = lines; after = after }
+
+-- The calls of a round, played: what the step tells, and what it leaves.
+abbrev pub callOf : Line → Call
+callOf l = l .call
+
+unfoldable pub played : List Line → Held → List Line
+played [] h = []
+played (l ∷ ls) h =
+    let o = step (l .call) h in
+    l .call ⇒ tells (o .answer) (o .events) ∷ played ls (o .after)
 
 unfoldable pub play : Round → Round
 play r =
-    let h = left (r .opening) uncommissioned in
-    record { opening = r .opening; calls = r .calls; told = tellings (r .calls) h; iteration = iterationIn (left (r .calls) h) }
+    let h = final (r .opening) uncommissioned in
+    round (r .opening) (played (r .lines) h) (leftIn (final (map callOf (r .lines)) h))
+
+unfoldable pub playFrom : From → From
+playFrom r = from (r .held) (played (r .lines) (r .held)) (final (map callOf (r .lines)) (r .held))
+
+-- 01's worked rounds.
+-- "elapsed 10 nothing, 11 fires."
+abbrev pub elapsed : Round
+elapsed =
+    round (begun ++ (answers 0 q0 ∷ []))
+    (at 10 processTimeout ⇒ nothingTold ∷ at 11 processTimeout ⇒ noncesLate (0 ∷ []) [] ∷ [])
+    (left9 1)
+
+-- "0 and 2 answer: 2 keys, gathering."
+abbrev pub twoKeys : Round
+twoKeys = round begun (answers 0 q0 ⇒ recordedOf 0 ∷ answers 0 q2 ⇒ recordedOf 2 ∷ []) (left9 1)
+
+-- "0 and 1: 3 keys, request leaves."
+abbrev pub threeKeys : Round
+threeKeys = round begun (answers 0 q0 ⇒ recordedOf 0 ∷ answers 0 q1 ⇒ sharesAsked 1 (shares9 (q0 ∷ q1 ∷ [])) ∷ []) (left9 1)
+
+-- "1 lists 3, 2, 3: recorded."
+abbrev pub repeatsListed : Round
+repeatsListed = round begun (answers 0 (respond 1 (3 ∷ 2 ∷ 3 ∷ []) good) ⇒ recordedOf 1 ∷ []) (left9 1)
+
+-- "Lists 2: nothing."
+abbrev pub oneListed : Round
+oneListed = round begun (answers 0 (respond 1 (2 ∷ []) good) ⇒ nothingTold ∷ []) (left9 1)
+
+-- "D = G: nothing."
+abbrev pub generatorSent : Round
+generatorSent = round begun (answers 0 (respond 0 (1 ∷ []) (nonce generator point)) ⇒ nothingTold ∷ []) (left9 1)
+
+-- "D with first byte 03, G otherwise: recorded."
+abbrev pub otherSign : Round
+otherSign = round begun (answers 0 (respond 0 (1 ∷ []) (nonce (3 ∷ drop 1 generator) point)) ⇒ recordedOf 0 ∷ []) (left9 1)
+
+-- "after 0 and 1, only 0 silent: 4 − 1 = 3, retry."
+abbrev pub zeroSilent : Round
+zeroSilent =
+    round gathered
+    (shares1 ⇒ takenOf 1 ∷ at 11 processTimeout ⇒ retriedWith (0 ∷ []) (request9 2) ∷ [])
+    (left (ids 2) nine (0 ∷ []))
+
+-- "Only 1 silent: 2, InsufficientSigners."
+abbrev pub oneSilent : Round
+oneSilent =
+    round gathered
+    (shares0 ⇒ takenOf 0 ∷ at 11 processTimeout ⇒ insufficient (1 ∷ []) (1 ∷ []) ∷ [])
+    (left (ids 1) nine (1 ∷ []))
+
+-- "nonce timeout, no response: 12."
+abbrev pub noResponse : Round
+noResponse = round begun (at 11 processTimeout ⇒ refuses 12 ∷ []) (left9 1)
+
+-- "1 shares only key 2: 22; then 0's good shares: job, whole no."
+abbrev pub notWhole : Round
+notWhole =
+    round gathered
+    (shares 0 1 (2 ∷ []) ⇒ fails 22 (1 ∷ []) ∷ shares0 ⇒ jobGiven 0 false (job9 (share 0 (1 ∷ []) ∷ [])) ∷ [])
+    (left9 1)
+
+-- "Idle request, iteration 0: sent with 0;"
+abbrev pub idleRequest : Round
+idleRequest = round ready (sends 0 (nonceRequest (request9 0)) ⇒ noncesAsked (request9 0) ∷ []) (left9 0)
+
+-- "with no group key 10, and 2^64 − 1 is left."
+abbrev pub idleRequestRefused : Round
+idleRequestRefused =
+    round (ready ++ (at 0 (setKey aggregateKey false) ∷ []))
+    (sends 0 (nonceRequest (request9 0)) ⇒ refuses 10 ∷ [])
+    (left (idsOf 1 0 (2 ^ 64 - 1)) [] [])
+
+-- "0 answers four messages, then a fifth: 19."
+abbrev pub fifthMessage : Round
+fifthMessage =
+    round begun
+    (answers 0 (to (1 ∷ []) q0) ⇒ recordedOf 0
+    ∷ answers 0 (to (2 ∷ []) q0) ⇒ recordedOf 0
+    ∷ answers 0 (to (3 ∷ []) q0) ⇒ recordedOf 0
+    ∷ answers 0 (to (4 ∷ []) q0) ⇒ recordedOf 0
+    ∷ answers 0 (to (5 ∷ []) q0) ⇒ refuses 19
+    ∷ [])
+    (left9 1)
+
+unfoldable pub rounds : List Round
+rounds =
+    elapsed
+    ∷ twoKeys
+    ∷ threeKeys
+    ∷ repeatsListed
+    ∷ oneListed
+    ∷ generatorSent
+    ∷ otherSign
+    ∷ zeroSilent
+    ∷ oneSilent
+    ∷ noResponse
+    ∷ notWhole
+    ∷ idleRequest
+    ∷ idleRequestRefused
+    ∷ fifthMessage
+    ∷ []

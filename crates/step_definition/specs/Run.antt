@@ -6,11 +6,11 @@ use Rattle.step_definition.specs.Coordinator.{Held, uncommissioned, misc
 use Rattle.step_definition.specs.Calls.{Call, Answer}
 use Rattle.step_definition.specs.Step.{step}
 
--- "struck list": nobody where there is no coordinator
+-- 01's struck list: nobody where there is no coordinator
 unfoldable pub maliciousIn : Held → List ℕ
 maliciousIn uncommissioned = []
 maliciousIn miscounted = []
-maliciousIn (commissioned c) = c .malicious-signer-ids
+maliciousIn (commissioned c) = c .standing .malicious-signer-ids
 
 pub record Seen : Type 0 where
   pub answer : Answer
@@ -20,6 +20,7 @@ unfoldable pub run : List Call → Held → List Seen
 run [] h = []
 run (k ∷ ks) h = record { answer = step k h .answer; malicious = maliciousIn (step k h .after) } ∷ run ks (step k h .after)
 
+-- what a list of calls leaves
 unfoldable pub final : List Call → Held → Held
 final [] h = h
 final (k ∷ ks) h = final ks (step k h .after)
