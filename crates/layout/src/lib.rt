@@ -10,6 +10,8 @@ pub const LIST_LIMIT: usize = 16;
 
 pub const SIGNER_LIMIT: usize = 10;
 
+pub const RECORD_LIMIT: usize = 4;
+
 pub const STORE_LENGTH: usize = 52224;
 
 pub const ANSWER_LENGTH: usize = 19232;

@@ -1,0 +1,3 @@
+-- Laws of these calls.
+pub mod Turns
+pub mod Refines

@@ -1,0 +1,3 @@
+-- What the calls that write no packet do to the struct.
+pub mod Calls
+pub mod Resets

@@ -1,0 +1,3 @@
+// The keys of the signers' key sets, counted.
+pub mod counts;
+pub mod keys;

@@ -1,0 +1,2 @@
+-- Laws of the share request.
+pub mod Writes

@@ -1,0 +1,2 @@
+-- The share request of a record.
+pub mod ShareRequest

@@ -1,0 +1,5 @@
+-- Laws of the signers in order.
+-- Assumes nothing.
+pub mod Given
+pub mod Placing
+pub mod Walking

@@ -1,0 +1,2 @@
+-- What the signers in order come to.
+pub mod Order

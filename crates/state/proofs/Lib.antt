@@ -1,0 +1,13 @@
+-- Laws of the struct, its view and its counts.
+-- Assumes nothing.
+pub mod Given
+pub mod Walks
+pub mod Turns
+pub mod Arrays
+pub mod SignerSlots
+pub mod Collect
+pub mod Within
+pub mod Store
+pub mod Shape
+pub mod Refines
+pub mod Limits

@@ -1,0 +1,6 @@
+-- The coordinator's struct and store, and the coordinator that they stand for.
+pub mod Slots
+pub mod Counts
+pub mod View
+pub mod Setters
+pub mod Turns
