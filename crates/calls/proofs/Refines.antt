@@ -1,18 +1,19 @@
 -- Each call gives what the step says of what the struct and the store stand for.
 -- Assumes nothing.
 use Prim.Native.Nat.{ℕ}
-use mathlib.Core.Path.{_≡_, refl, _∙_}
+use mathlib.Core.Path.{_≡_, refl, ap, _∙_}
 use mathlib.Core.Bool.{Bool, true, false, _&&_}
-use mathlib.Core.List.{List, []}
+use mathlib.Core.List.{List, [], _∷_}
 use mathlib.Core.Option.{none}
 use lib.Dec.{leb}
 use lib.ListN.{length, replicate}
 use Rattle.wire.specs.Bytes.{every}
 use Rattle.wire.proofs.Lists.{and-left}
 use Rattle.layout.specs.Limits.{messageLimit, signerLimit}
+use Rattle.state_table.specs.declared.State.{State}
 use Rattle.step_definition.specs.Calls as A
 use Rattle.step_definition.specs.Questions.{asks}
-use Rattle.step_definition.specs.Step.{onAggregated, own, stepOf, step}
+use Rattle.step_definition.specs.Step.{onAggregated, own, stepOf, step, yesNo}
 use Rattle.state.specs.declared.fields.Coordinator.{Coordinator}
 use Rattle.state.specs.declared.fields.SignerSlot.{SignerSlot}
 use Rattle.state.specs.declared.fields.ShareSlot.{ShareSlot}
@@ -23,10 +24,11 @@ use Rattle.state.specs.Turns.{asked, askedIf, Refines}
 use Rattle.state.proofs.Arrays.{getD-either, getD-same, every-same}
 use Rattle.state.proofs.Collect.{collect-none}
 use Rattle.state.proofs.Refines.{on-held, view-held, callOf}
+use Rattle.state.proofs.Moves.{move-viewed}
 use Rattle.calls.specs.Resets.{resetTurn, abandoned, forgotten, asksNothing, emptyShares}
 use Rattle.calls.specs.declared.held_keys.HeldKey.{HeldKey}
 use Rattle.calls.specs.declared.held_keys.HeldKey.the-variants as Which
-use Rattle.calls.specs.Calls.{askingNoJob, askingAJob, keysWith, setKeyTurn, aggregatedTurn}
+use Rattle.calls.specs.Calls.{askingNoJob, askingAJob, keysWith, setKeyTurn, moveTurn, aggregatedTurn}
 
 -- which key the definition's call names
 abbrev pub named : HeldKey → A.HeldKey
@@ -55,6 +57,20 @@ module _ (clock room : ℕ) (verdict : Bool) (s : Coordinator) (store : List ℕ
   aggregated-refines false =
       on-held (calling (A.aggregated false)) (A.aggregated false) askingAJob refl s store _ refl
       (λ b w. record { answer = refl; events = refl; after = view-held _ store b w })
+
+  -- the root is the 32 bytes that the host gives; the definition's call has them where the type has a root
+  pub can-move-refines :
+      (next : State) (root : List ℕ) → length root ≡ 32 → length (s .position .root) ≡ 32
+      → Refines (moveTurn next root s store) (step (calling (A.canMove (positionOf (record { state = next; root = root })))) (view s store))
+  unfolding stepOf asks own moveTurn asked askedIf coordinatorOf positionOf
+  can-move-refines next root given kept =
+      let p = positionOf (record { state = next; root = root }) in
+      on-held (calling (A.canMove p)) (A.canMove p) askingNoJob refl s store _ refl
+      (λ b w. record {
+        answer = ap (λ (b : Bool). A.telling (yesNo b ∷ [])) (move-viewed (s .position .root) root kept given (s .position .state) next);
+        events = refl;
+        after = view-held s store b w;
+      })
 
 -- reset: nothing is collected from cleared shares and flags
 no-shares : (es : List SignerSlot) (store : List ℕ) → collect (sharesIn store (replicate signerLimit emptyShares)) es ≡ []

@@ -17,11 +17,17 @@ use Rattle.state.specs.declared.fields.SignRoundInfo.{SignRoundInfo}
 use Rattle.state.specs.declared.fields.Records.{Records}
 use Rattle.state.specs.declared.fields.ShareSlot.{ShareSlot}
 use Rattle.state.specs.declared.fields.Shares.{Shares}
+use Rattle.state.specs.declared.fields.Message.{Message}
+use Rattle.state.specs.declared.fields.Position.{Position}
+use Rattle.state.specs.declared.fields.Coordinator.{Coordinator}
+use Rattle.state.proofs.fields.Coordinator as Coordinator-row
 use Rattle.state.proofs.fields.Config as Config-row
 use Rattle.state.proofs.fields.SignRoundInfo as SignRoundInfo-row
 use Rattle.state.proofs.fields.Records as Records-row
 use Rattle.state.proofs.fields.ShareSlot as ShareSlot-row
 use Rattle.state.proofs.fields.Shares as Shares-row
+use Rattle.state.proofs.fields.Message as Message-row
+use Rattle.state.proofs.fields.Position as Position-row
 
 pub signers-10 : (g : Config) (vs : List Val) → Is Config-row.the-row g vs → length (g .signers) ≡ 10
 signers-10 x vs g = rw length-map at (g .1 .1 .1 .1 .1 .1 .1 .1 .0 .1 .0 .1)
@@ -56,3 +62,15 @@ each-10 (q ∷ qs) (u ∷ us) g = (slots-10 q (u ∷ []) (g .0), each-10 qs us (
 
 pub records-slots : (r : Records) (vs : List Val) → Is Records-row.the-row r vs → All (λ (row : SignRoundInfo). length (row .slots) ≡ 10) (r .rows)
 records-slots r vs g = each-10 (r .rows) _ (g .1 .1 .0 .1 .1)
+
+pub bytes-256 : (m : Message) (vs : List Val) → Is Message-row.the-row m vs → length (m .bytes) ≡ 256
+bytes-256 x vs g = rw length-map at (g .1 .1 .0 .1 .0 .1)
+
+pub root-32 : (p : Position) (vs : List Val) → Is Position-row.the-row p vs → length (p .root) ≡ 32
+root-32 x vs g = rw length-map at (g .1 .1 .1 .0 .1 .0 .1)
+
+pub coordinator-bytes : (s : Coordinator) (vs : List Val) → Is Coordinator-row.the-row s vs → length (s .message .bytes) ≡ 256
+coordinator-bytes s vs g = bytes-256 (s .message) _ (g .1 .1 .1 .1 .1 .1 .0)
+
+pub coordinator-root : (s : Coordinator) (vs : List Val) → Is Coordinator-row.the-row s vs → length (s .position .root) ≡ 32
+coordinator-root s vs g = root-32 (s .position) _ (g .1 .1 .1 .1 .1 .0)

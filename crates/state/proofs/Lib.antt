@@ -11,3 +11,4 @@ pub mod Store
 pub mod Shape
 pub mod Refines
 pub mod Limits
+pub mod Moves
