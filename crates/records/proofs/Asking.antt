@@ -76,7 +76,7 @@ unfolding configOf
 not-listed g id n = find-out signerId (listing g) (listing-id g) id (slotsOf g) (slots-out id (idsOf g) n)
 
 module _ (g : Config) (id i : ℕ) (found : slotOf id g ≡ some i) where
-  listed-at : signerOf (configOf g) id ≡ some (signerIn (g .signers) (signerSlot id i))
+  pub listed-at : signerOf (configOf g) id ≡ some (signerIn (g .signers) (signerSlot id i))
   unfolding configOf
   listed-at = find-in signerId (listing g) (listing-id g) (signerSlot id i) (slotsOf g) (slots-rise 0 (idsOf g)) (slot-in id 0 (idsOf g) i found)
 

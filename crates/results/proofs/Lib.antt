@@ -1,0 +1,6 @@
+-- Laws of taking key generation's results.
+-- Assumes nothing.
+pub mod Walks
+pub mod Turns
+pub mod Flags
+pub mod Refines

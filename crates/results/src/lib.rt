@@ -1,0 +1,3 @@
+// Taking key generation's results.
+pub mod ended;
+pub mod results;
