@@ -1,0 +1,3 @@
+-- Laws of the lists of ids.
+-- Assumes nothing.
+pub mod Listing

@@ -1,0 +1,2 @@
+-- Which slots of a record wait.
+pub mod Flags

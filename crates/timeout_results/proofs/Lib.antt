@@ -1,0 +1,3 @@
+-- Laws of the results of timeouts.
+-- Assumes nothing.
+pub mod Writes

@@ -1,0 +1,2 @@
+-- Whom the results of timeouts name.
+pub mod Named
