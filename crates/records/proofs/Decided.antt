@@ -64,12 +64,9 @@ record-none es m store k (row ∷ rows) h = turn (sameBytes m (rowMessage k row 
     turn true h f = let z : ⊥ = omega arith in absurd z
     turn false h f = f (omega arith)
 
-module _ (s : Coordinator) (store : List ℕ) (shaped : Shaped s) (w : isWithin s ≡ true) (got : Ids) (id : ℕ) (m keys nonces : List ℕ) where
+module _ (s : Coordinator) (store : List ℕ) (shaped : Shaped s) (w : isWithin s ≡ true) (m : List ℕ) where
   abbrev c : C.Coordinator
   c = coordinatorOf s store
-
-  abbrev q : NonceResponse
-  q = responseFor got id m keys nonces
 
   abbrev r : ℕ
   r = recordPlace m (s .records) store
@@ -84,14 +81,14 @@ module _ (s : Coordinator) (store : List ℕ) (shaped : Shaped s) (w : isWithin 
   unfolding recordPlace
   at-index = place-index m store 0 live ∙ zero-add _
 
-  found-record : r < s .records .count → C.recordOf m (c .round .message-nonces) ≡ some (rowOf (slotsOf (s .config)) store r (getD (s .records .rows) r noRow))
+  pub found-record : r < s .records .count → C.recordOf m (c .round .message-nonces) ≡ some (rowOf (slotsOf (s .config)) store r (getD (s .records .rows) r noRow))
   unfolding coordinatorOf roundOf
   found-record h =
       let e = at-index in
       let l = live-length in
       rw (zero-add (index m store 0 live), ← e, getD-take (s .records .count) (s .records .rows) r noRow h) at (record-found (slotsOf (s .config)) m store 0 live (omega arith))
 
-  no-record : s .records .count ≤ r → C.recordOf m (c .round .message-nonces) ≡ none
+  pub no-record : s .records .count ≤ r → C.recordOf m (c .round .message-nonces) ≡ none
   unfolding coordinatorOf roundOf
   no-record h = let e = at-index in let l = live-length in record-none (slotsOf (s .config)) m store 0 live (omega (arith, index-le m store 0 live))
 
@@ -99,54 +96,58 @@ module _ (s : Coordinator) (store : List ℕ) (shaped : Shaped s) (w : isWithin 
   unfolding coordinatorOf roundOf
   records-length = rows-length (slotsOf (s .config)) store 0 live ∙ live-length
 
-  -- 19: the place is among the four
-  asks-19 : question19 c q ≡ ltb r recordLimit
-  unfolding question19
-  asks-19 = by (ltb r (s .records .count)) refl
-    where
-      by : (b : Bool) → ltb r (s .records .count) ≡ b
-          → (isSome (C.recordOf m (c .round .message-nonces)) || ltb (length (c .round .message-nonces)) recordLimit) ≡ ltb r recordLimit
-      by true e =
-          let h = ltb-true r (s .records .count) e in
-          let few = records-few s (within s w) in
-          rw (found-record h, lt-ltb r recordLimit (omega arith))
-      by false e =
-          let h = ltb-false r (s .records .count) e in
-          let same : s .records .count ≡ r = omega (arith, place-le m store (s .records)) in
-          rw (no-record h) (ap (λ (n : ℕ). ltb n recordLimit) (records-length ∙ same))
+  module _ (got : Ids) (id : ℕ) (keys nonces : List ℕ) where
+    abbrev q : NonceResponse
+    q = responseFor got id m keys nonces
 
-  -- a second response
-  asks-again : (i : ℕ) → slotOf id (s .config) ≡ some i → C.responded id (C.responsesOf (C.recordOf m (c .round .message-nonces))) ≡ heldAt (s .records) r i
-  unfolding heldAt rowOf find
-  asks-again i f = by (ltb r (s .records .count)) refl
-    where
-      by : (b : Bool) → ltb r (s .records .count) ≡ b
-          → C.responded id (C.responsesOf (C.recordOf m (c .round .message-nonces))) ≡ cond b (getD (getD (s .records .rows) r noRow .slots) i noSlot .held) false
-      by true e =
-          let row = getD (s .records .rows) r noRow in
-          rw (found-record (ltb-true r (s .records .count) e))
-          (ap isSome (find-in C.responderId (heldIn r (row .message) store (row .slots)) (held-id r store (row .message) (row .slots)) (signerSlot id i) (slotsOf (s .config)) (slots-rise 0 (idsOf (s .config))) (slot-in id 0 (idsOf (s .config)) i f))
-          ∙ when-is (getD (row .slots) i noSlot .held) _)
-      by false e = rw (no-record (ltb-false r (s .records .count) e))
+    -- 19: the place is among the four
+    asks-19 : question19 c q ≡ ltb r recordLimit
+    unfolding question19
+    asks-19 = by (ltb r (s .records .count)) refl
+      where
+        by : (b : Bool) → ltb r (s .records .count) ≡ b
+            → (isSome (C.recordOf m (c .round .message-nonces)) || ltb (length (c .round .message-nonces)) recordLimit) ≡ ltb r recordLimit
+        by true e =
+            let h = ltb-true r (s .records .count) e in
+            let few = records-few s (within s w) in
+            rw (found-record h, lt-ltb r recordLimit (omega arith))
+        by false e =
+            let h = ltb-false r (s .records .count) e in
+            let same : s .records .count ≡ r = omega (arith, place-le m store (s .records)) in
+            rw (no-record h) (ap (λ (n : ℕ). ltb n recordLimit) (records-length ∙ same))
 
-  -- not configured: nothing
-  nowhere : slotOf id (s .config) ≡ none → admitted (configOf (s .config)) (standingOf s .dkg-end-messages) (standingOf s .malicious-signer-ids) q ≡ false
-  unfolding admitted
-  nowhere n = rw (not-listed (s .config) id n)
+    -- a second response
+    asks-again : (i : ℕ) → slotOf id (s .config) ≡ some i → C.responded id (C.responsesOf (C.recordOf m (c .round .message-nonces))) ≡ heldAt (s .records) r i
+    unfolding heldAt rowOf find
+    asks-again i f = by (ltb r (s .records .count)) refl
+      where
+        by : (b : Bool) → ltb r (s .records .count) ≡ b
+            → C.responded id (C.responsesOf (C.recordOf m (c .round .message-nonces))) ≡ cond b (getD (getD (s .records .rows) r noRow .slots) i noSlot .held) false
+        by true e =
+            let row = getD (s .records .rows) r noRow in
+            rw (found-record (ltb-true r (s .records .count) e))
+            (ap isSome (find-in C.responderId (heldIn r (row .message) store (row .slots)) (held-id r store (row .message) (row .slots)) (signerSlot id i) (slotsOf (s .config)) (slots-rise 0 (idsOf (s .config))) (slot-in id 0 (idsOf (s .config)) i f))
+            ∙ when-is (getD (row .slots) i noSlot .held) _)
+        by false e = rw (no-record (ltb-false r (s .records .count) e))
 
-  at-slot : (o : Option ℕ) → slotOf id (s .config) ≡ o
-      → cond (admitted (configOf (s .config)) (standingOf s .dkg-end-messages) (standingOf s .malicious-signer-ids) q)
-      (cond (question19 c q) (cond (C.responded id (C.responsesOf (C.recordOf m (c .round .message-nonces)))) ignored records) noRoom) ignored
-      ≡ meaning (given o (verdictAt s store m keys nonces) Nothing)
-  unfolding verdictAt verdictOn meaning
-  at-slot none e = rw (nowhere e)
-  at-slot (some i) e =
-      rw (admitted-at s i q e, asks-19, asks-again i e)
-      (cond-image meaning (admittedAt s i (idsIn keys) (noncesIn nonces)) (cond-image meaning (ltb r recordLimit) (cond-image meaning (heldAt (s .records) r i) refl refl) refl) refl)
+    -- not configured: nothing
+    nowhere : slotOf id (s .config) ≡ none → admitted (configOf (s .config)) (standingOf s .dkg-end-messages) (standingOf s .malicious-signer-ids) q ≡ false
+    unfolding admitted
+    nowhere n = rw (not-listed (s .config) id n)
 
-  pub decided : nonceVerdict q (coordinatorOf s store) ≡ meaning (verdictOf s got id store m keys nonces)
-  unfolding nonceVerdict verdictOf coordinatorOf standingOf meaning
-  decided =
-      cond-image meaning (eqb (got .«dkg_id») (s .ids .«dkg_id»))
-      (cond-image meaning (eqb (got .«sign_id») (s .ids .«sign_id»))
-      (cond-image meaning (eqb (got .«sign_iter_id») (s .ids .«sign_iter_id»)) (at-slot (slotOf id (s .config)) refl) refl) refl) refl
+    at-slot : (o : Option ℕ) → slotOf id (s .config) ≡ o
+        → cond (admitted (configOf (s .config)) (standingOf s .dkg-end-messages) (standingOf s .malicious-signer-ids) q)
+        (cond (question19 c q) (cond (C.responded id (C.responsesOf (C.recordOf m (c .round .message-nonces)))) ignored records) noRoom) ignored
+        ≡ meaning (given o (verdictAt s store m keys nonces) Nothing)
+    unfolding verdictAt verdictOn meaning
+    at-slot none e = rw (nowhere e)
+    at-slot (some i) e =
+        rw (admitted-at s i q e, asks-19, asks-again i e)
+        (cond-image meaning (admittedAt s i (idsIn keys) (noncesIn nonces)) (cond-image meaning (ltb r recordLimit) (cond-image meaning (heldAt (s .records) r i) refl refl) refl) refl)
+
+    pub decided : nonceVerdict q (coordinatorOf s store) ≡ meaning (verdictOf s got id store m keys nonces)
+    unfolding nonceVerdict verdictOf coordinatorOf standingOf meaning
+    decided =
+        cond-image meaning (eqb (got .«dkg_id») (s .ids .«dkg_id»))
+        (cond-image meaning (eqb (got .«sign_id») (s .ids .«sign_id»))
+        (cond-image meaning (eqb (got .«sign_iter_id») (s .ids .«sign_iter_id»)) (at-slot (slotOf id (s .config)) refl) refl) refl) refl

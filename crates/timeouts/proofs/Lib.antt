@@ -1,0 +1,4 @@
+-- Laws of timeouts.
+-- Assumes nothing.
+pub mod Asked
+pub mod Refines

@@ -1,0 +1,2 @@
+-- What a timeout does at the level of struct and store.
+pub mod NonceTimeout
