@@ -457,4 +457,5 @@ def main():
     print(len(script), "cases,", len(text), "bytes")
 
 
-main()
+if __name__ == "__main__":
+    main()

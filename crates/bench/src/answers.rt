@@ -1,10 +1,11 @@
 // One case, by its letter: R a packet read, V nonces tested, K key lists compared, M a move asked, and the writers (writes.rt).
 use crate::lists;
-use crate::print;
-use crate::tokens;
 use crate::writes;
 use layout::Header;
 use layout::Ids;
+use script::print;
+use script::states;
+use script::tokens;
 use state_table::State;
 use validity::keys::KeyIds;
 
@@ -56,23 +57,7 @@ fn compare(s: &[u8]) {
 // A state: its number and its type; a third byte is the last of its root.
 fn state_in(s: &[u8]) -> State {
     let t = layout::signature_type(wire::byte(s, 1));
-    match wire::byte(s, 0) {
-        0 => State::Idle,
-        1 => State::DkgPublicDistribute,
-        2 => State::DkgPublicGather,
-        3 => State::DkgPublicSharesDoneDistribute,
-        4 => State::DkgPublicSharesDoneGather,
-        5 => State::DkgPrivateDistribute,
-        6 => State::DkgPrivateGather,
-        7 => State::DkgPrivateSharesDoneDistribute,
-        8 => State::DkgPrivateSharesDoneGather,
-        9 => State::DkgEndDistribute,
-        10 => State::DkgEndGather,
-        11 => State::NonceRequest(t),
-        12 => State::NonceGather(t),
-        13 => State::SigShareRequest(t),
-        _ => State::SigShareGather(t),
-    }
+    states::state_of(wire::byte(s, 0), t)
 }
 
 fn root_in(s: &[u8]) -> [u8; layout::ROOT_LENGTH] {

@@ -1,23 +1,10 @@
 // Lists of ids, printed, and a packet's lists.
-use crate::lines;
-use crate::print;
-
-fn id(n: u32) {
-    print::field(b" ", n as u64);
-}
-
-// The numbers of four bytes each in s.
-fn each_id(s: &[u8]) {
-    let mut i: usize = 0;
-    while i < s.len() / layout::ID_LENGTH {
-        id(wire::u32_at(s, layout::ID_LENGTH * i));
-        i += 1;
-    }
-}
+use script::lines;
+use script::print;
 
 fn ids(s: &[u8]) {
     print::text(b", key ids {");
-    each_id(s);
+    print::ids(s);
     print::text(b" }");
 }
 

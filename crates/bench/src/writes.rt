@@ -1,7 +1,6 @@
 // The writers' cases. Lists come from the store at the places that the coordinator will use: a record's message at 0, each signer's
 // key ids and nonces 1,120 bytes apart from 256 on, share lists of 640 bytes from 45,824 on.
 use crate::answers;
-use crate::print;
 use body::RequestHead;
 use framing::Written;
 use job::JobPlace;
@@ -12,6 +11,7 @@ use pieces::places::Place;
 use pieces::places::ResponsePlace;
 use pieces::places::ResponsePlaces;
 use pieces::places::SignerIds;
+use script::print;
 use writer::dkg;
 use writer::results;
 

@@ -4,7 +4,6 @@ use Prim.Native.Nat.{ℕ}
 use mathlib.Core.Path.{_≡_, refl, ap, _∙_}
 use mathlib.Core.Bool.{Bool, true, false, _&&_}
 use mathlib.Core.List.{List, [], _∷_}
-use mathlib.Core.Option.{none}
 use lib.Dec.{leb}
 use lib.ListN.{length, replicate}
 use Rattle.wire.specs.Bytes.{every}
@@ -16,16 +15,16 @@ use Rattle.step_definition.specs.Questions.{asks}
 use Rattle.step_definition.specs.Step.{onAggregated, own, stepOf, step, yesNo}
 use Rattle.state.specs.declared.fields.Coordinator.{Coordinator}
 use Rattle.state.specs.declared.fields.SignerSlot.{SignerSlot}
-use Rattle.state.specs.declared.fields.ShareSlot.{ShareSlot}
-use Rattle.state.specs.Slots.{collect, when}
+use Rattle.state.specs.Slots.{collect}
 use Rattle.state.specs.Counts.{isWithin, configWithin, recordsWithin, sharesWithin}
-use Rattle.state.specs.View.{sharesOf, view, coordinatorOf, standingOf, roundOf, slotsOf, sharesIn, noShares, flaggedIn, rowsFrom, positionOf, rootBytes, reading}
+use Rattle.state.specs.View.{view, coordinatorOf, standingOf, roundOf, slotsOf, flaggedIn, rowsFrom, positionOf, rootBytes, reading}
 use Rattle.state.specs.Turns.{asked, askedIf, Refines}
-use Rattle.state.proofs.Arrays.{getD-either, getD-same, every-same}
+use Rattle.state.proofs.Arrays.{getD-same}
 use Rattle.state.proofs.Collect.{collect-none}
 use Rattle.state.proofs.Refines.{on-held, view-held, callOf}
 use Rattle.state.proofs.Moves.{move-viewed}
-use Rattle.calls.specs.Resets.{resetTurn, abandoned, forgotten, asksNothing, emptyShares}
+use Rattle.calls.specs.Resets.{resetTurn, abandoned, forgotten, asksNothing}
+use Rattle.round.proofs.Viewed.{no-shares, no-shares-within}
 use Rattle.calls.specs.declared.held_keys.HeldKey.{HeldKey}
 use Rattle.calls.specs.declared.held_keys.HeldKey.the-variants as Which
 use Rattle.calls.specs.Calls.{askingNoJob, askingAJob, keysWith, setKeyTurn, moveTurn, aggregatedTurn}
@@ -72,12 +71,7 @@ module _ (clock room : ℕ) (verdict : Bool) (s : Coordinator) (store : List ℕ
         after = view-held s store b w;
       })
 
--- reset: nothing is collected from cleared shares and flags
-no-shares : (es : List SignerSlot) (store : List ℕ) → collect (sharesIn store (replicate signerLimit emptyShares)) es ≡ []
-no-shares es store =
-    collect-none (sharesIn store (replicate signerLimit emptyShares)) es
-    (λ e. getD-either (λ (x : ShareSlot). when (x .held) (sharesOf store e x) ≡ none) signerLimit (e .slot) emptyShares noShares refl refl)
-
+-- reset: nothing is collected from cleared flags
 no-flags : (es : List SignerSlot) → collect (flaggedIn (replicate signerLimit false)) es ≡ []
 no-flags es = collect-none (flaggedIn (replicate signerLimit false)) es (λ e. rw (getD-same signerLimit (e .slot) false))
 
@@ -87,7 +81,7 @@ reset-within s w =
     let a = configWithin (s .config) in
     let b = leb (s .message .len) messageLimit in
     let ab : a && b ≡ true = and-left _ _ (and-left _ _ w) in
-    rw ab (every-same sharesWithin (s .config .count) signerLimit emptyShares refl)
+    rw ab (no-shares-within (s .config .count))
 
 pub reset-refines :
     (clock room : ℕ) (verdict : Bool) (s : Coordinator) (store : List ℕ)

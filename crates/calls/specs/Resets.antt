@@ -3,25 +3,22 @@ use Prim.Native.Nat.{ℕ}
 use mathlib.Core.Bool.{false}
 use mathlib.Core.List.{List}
 use lib.ListN.{length, replicate}
-use Rattle.layout.specs.Limits.{listLimit, signerLimit}
+use Rattle.layout.specs.Limits.{signerLimit}
 use Rattle.state_table.specs.declared.State.the-variants.{Idle}
 use Rattle.state.specs.declared.fields.Reading.the-variants.{Never}
-use Rattle.state.specs.declared.fields.ShareSlot.{ShareSlot}
 use Rattle.step_definition.specs.Calls as A
 use Rattle.state.specs.declared.answers.Asks.{Asks}
 use Rattle.state.specs.declared.fields.Coordinator.{Coordinator}
 use Rattle.state.specs.Setters.{setJob, setClocks, setShares, setRecords, setPosition, setMarks}
 use Rattle.state.specs.Turns.{Turn, turn, asked, unless}
-
-abbrev pub emptyShares : ShareSlot
-emptyShares = record { held = false; count = 0; «key_counts» = replicate listLimit 0 }
+use Rattle.round.specs.Round.{noneHeld}
 
 -- reset, in two steps
 unfoldable pub abandoned : Coordinator → Coordinator
 abandoned s =
     setJob false
     (setClocks (record { «nonce_start» = Never; «sign_start» = Never })
-    (setShares (record { slots = replicate signerLimit emptyShares })
+    (setShares noneHeld
     (setRecords (record { rows = s .records .rows; count = 0 })
     (setPosition (record { state = Idle; root = s .position .root }) s))))
 

@@ -3,7 +3,6 @@ ghost use mathlib.Core.Path.{_≡_};
 ghost use mathlib.Core.List.{[]};
 ghost use Rattle.state.specs.Turns.{Did};
 ghost use Rattle.calls.specs.Resets.{abandoned, forgotten, resetTurn};
-use layout::LIST_LIMIT;
 use layout::SIGNER_LIMIT;
 use state::answers;
 use state::answers::Asks;
@@ -15,8 +14,6 @@ use state::fields::Marks;
 use state::fields::Position;
 use state::fields::Reading;
 use state::fields::Records;
-use state::fields::ShareSlot;
-use state::fields::Shares;
 use state_table::State;
 
 fn abandon(s: Coordinator) -> Coordinator
@@ -31,14 +28,7 @@ fn abandon(s: Coordinator) -> Coordinator
     let held = s.records;
     let rows = held.rows;
     let records = Records { rows, count: 0 };
-    let empty = ShareSlot {
-        held: false,
-        count: 0,
-        key_counts: [0; LIST_LIMIT],
-    };
-    let shares = Shares {
-        slots: [empty; SIGNER_LIMIT],
-    };
+    let shares = round::no_shares();
     let clocks = Clocks {
         nonce_start: Reading::Never,
         sign_start: Reading::Never,

@@ -1,9 +1,9 @@
 -- One record with a response added: what stands for it after is `withResponse` of what stood for it before.
 -- Assumes nothing.
-use Prim.Native.Nat.{ℕ, _*_, _/_, _<_, _≤_}
-use mathlib.Core.Path.{_≡_, refl, sym, ap, _∙_}
+use Prim.Native.Nat.{ℕ, _+_, _*_, _/_, _<_, _≤_}
+use mathlib.Core.Path.{_≡_, refl, sym, ap, ap₂, _∙_}
 use mathlib.Core.Bool.{Bool, true, false, _&&_}
-use mathlib.Core.List.{List}
+use mathlib.Core.List.{List, [], _∷_}
 use mathlib.Core.Option.{some}
 use native.Mathlib.Omega.{arith}
 use borrow.Author.Tests.{ltb-true, ltb-false}
@@ -25,7 +25,7 @@ use Rattle.state.specs.declared.fields.SignRoundInfo.{SignRoundInfo}
 use Rattle.state.specs.declared.fields.SignerSlot.{SignerSlot}
 use Rattle.state.specs.Slots.{Rising, signerSlot, collect}
 use Rattle.state.specs.Setters.{setSlot}
-use Rattle.state.specs.View.{keyBytes, nonceBytes, responseBytes, recordBytes, messageAt, keysAt, noncesAt, noSlot, placeOf, heldIn, waitsIn, rowOf}
+use Rattle.state.specs.View.{keyBytes, nonceBytes, responseBytes, recordBytes, messageAt, keysAt, noncesAt, noSlot, placeOf, heldIn, waitsIn, rowOf, rowsFrom}
 use Rattle.state.proofs.Arrays.{all-both-imp}
 use Rattle.state.proofs.SignerSlots.{In}
 use Rattle.state.proofs.Collect.{when-same, when-some, collect-same, collect-insert}
@@ -72,6 +72,16 @@ module _ (es : List SignerSlot) (n : ℕ) (n≤10 : n ≤ signerLimit) (low : Al
       collect-same (heldIn r (row .message) store (row .slots)) (heldIn r (row .message) store′ (row .slots)) es
       (all-imp es (λ (e : SignerSlot) (l : e .slot < n). held-same store store′ r row e g l (same-part (messageAt r) messageLimit s (omega arith) (omega arith)) (same-part (keysAt r (e .slot)) responseBytes s (omega arith) (omega arith))) low) in
       rw (a, b)
+
+  -- and so do the records from k on
+  pub rows-same :
+      (store store′ : List ℕ) (k : ℕ) (rows : List SignRoundInfo) → ((j : ℕ) → k ≤ j → j < recordLimit → Same (messageAt j) recordBytes store store′) → k + length rows ≤ recordLimit → All (Good n) rows
+      → rowsFrom es store k rows ≡ rowsFrom es store′ k rows
+  unfolding rowsFrom
+  rows-same store store′ k [] same l g = refl
+  rows-same store store′ k (row ∷ rows) same l g =
+      ap₂ {C = List C.SignRoundInfo} (λ y ys. y ∷ ys) (row-same store store′ k row (g .0) (same k (omega arith) (omega arith)))
+      (rows-same store store′ (k + 1) rows (λ j h m. same j (omega arith) m) (omega arith) (g .1))
 
 -- a response is its signer's
 pub held-id : (r : ℕ) (store : List ℕ) (k : ℕ) (slots : List ResponseSlot) (e : SignerSlot) (y : NonceResponse) → heldIn r k store slots e ≡ some y → C.responderId y ≡ e .id

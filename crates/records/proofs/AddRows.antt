@@ -22,7 +22,7 @@ use Rattle.state.specs.View.{recordBytes, messageAt, noRow, rowOf, rowsFrom}
 use Rattle.state.proofs.Within.{Good}
 use Rattle.state.proofs.Store.{Same, same-is}
 use Rattle.records.specs.Records.{responseFor, rowMessage, recordFrom, recordPlace, emptyRow}
-use Rattle.records.proofs.AddResponse.{row-same}
+use Rattle.records.proofs.AddResponse.{row-same, rows-same}
 
 -- how many records stand before the one of the message
 unfoldable pub index : List ℕ → List ℕ → ℕ → List SignRoundInfo → ℕ
@@ -106,13 +106,6 @@ module _ (es : List SignerSlot) (n : ℕ) (n≤10 : n ≤ signerLimit) (low : Al
   abbrev New : Type 0
   New = rowOf es store′ r (setSlot i x (emptyRow (length m))) ≡ C.opened q
 
-  -- records other than r
-  rows-same : (k : ℕ) (rows : List SignRoundInfo) → r < k → k + length rows ≤ recordLimit → All (Good n) rows → rowsFrom es store k rows ≡ rowsFrom es store′ k rows
-  unfolding rowsFrom
-  rows-same k [] h l g = refl
-  rows-same k (row ∷ rows) h l g =
-      ap₂ {C = List C.SignRoundInfo} (λ y ys. y ∷ ys) (row-same es n n≤10 low store store′ k row (g .0) (rest k (λ e. omega arith) (omega arith))) (rows-same (k + 1) rows (omega arith) (omega arith) (g .1))
-
   pub rows-added :
       (k : ℕ) (rows : List SignRoundInfo) → r ≡ k + index m store k rows → k + length rows ≤ recordLimit → All (Good n) rows
       → (index m store k rows < length rows → rowMessage r (getD rows (index m store k rows) noRow) store ≡ m → Known (getD rows (index m store k rows) noRow))
@@ -139,7 +132,7 @@ module _ (es : List SignerSlot) (n : ℕ) (n≤10 : n ≤ signerLimit) (low : Al
       by true same e old new rec =
           let er : r ≡ k = omega arith in
           let msg : rowMessage r row store ≡ m = rw er (sym (same-is m (rowMessage k row store) same)) in
-          ap₂ {C = List C.SignRoundInfo} (λ y ys. y ∷ ys) (rw er at (old (omega arith) msg)) (sym (rows-same (k + 1) rows (omega arith) (omega arith) (g .1)))
+          ap₂ {C = List C.SignRoundInfo} (λ y ys. y ∷ ys) (rw er at (old (omega arith) msg)) (sym (rows-same es n n≤10 low store store′ (k + 1) rows (λ j h m. rest j (λ p. omega arith) m) (omega arith) (g .1)))
       by false same e old new rec =
           ap₂ {C = List C.SignRoundInfo} (λ y ys. y ∷ ys)
           (sym (row-same es n n≤10 low store store′ k row (g .0) (rest k (λ p. omega arith) (omega arith))))

@@ -11,7 +11,7 @@ use lib.Dec.{ltb, leb}
 use lib.ListN.{length, getD, set, take}
 use lib.Seq.{getD-set-same, set-set}
 use Rattle.wire.specs.Bytes.{put, every, All}
-use Rattle.wire.proofs.Lists.{and-left, and-right, and-both, all-imp, all-both, every-all}
+use Rattle.wire.proofs.Lists.{and-left, and-right, and-both}
 use Rattle.layout.specs.Limits.{messageLimit, listLimit, signerLimit, recordLimit, storeLength}
 use Rattle.layout.specs.declared.Ids.{Ids}
 use Rattle.pieces.proofs.Given.{live-at}
@@ -25,11 +25,11 @@ use Rattle.state.specs.Slots.{collect}
 use Rattle.state.specs.Setters.{setSlot, setRow, setRecords}
 use Rattle.state.specs.Counts.{slotWithin, rowWithin, recordsWithin, isWithin}
 use Rattle.state.specs.View.{sharesStart, shareBytes, view, coordinatorOf, roundOf, standingOf, idsOf, slotsOf, messageAt, keysAt, noncesAt, noRow, sharesIn}
-use Rattle.state.proofs.Arrays.{every-set, every-next, all-take}
+use Rattle.state.proofs.Arrays.{every-set, every-next}
 use Rattle.state.proofs.SignerSlots.{slots-rise, slots-live, slots-one, slot-in}
 use Rattle.state.proofs.Within.{Good, within, is-within, config-few, records-few, rows-within}
-use Rattle.state.proofs.Store.{Same, same-then, put-before}
-use Rattle.state.proofs.Shape.{Shaped, shares-kept}
+use Rattle.state.proofs.Store.{Same, same-all, same-then, put-before}
+use Rattle.state.proofs.Shape.{Shaped, rows-good, shares-kept}
 use Rattle.state.proofs.Refines.{view-held}
 use Rattle.records.specs.Records.{responseFor, recordPlace, emptyRow, opened, openedStore, heldSlot, addedRecords, addedStore}
 use Rattle.records.proofs.AddResponse.{Sent}
@@ -45,7 +45,7 @@ row-within n i x row p w =
     let few = every slotWithin (take n (row .slots)) in
     and-both short (every slotWithin (take n (set (row .slots) i x))) (and-left short few w) (every-set slotWithin n (row .slots) i x p (and-right short few w))
 
-module _ (s : Coordinator) (store : List ℕ) (shaped : Shaped s) (b : s .commissioned ≡ true) (w : isWithin s ≡ true) (big : storeLength ≤ length store)
+module _ (s : Coordinator) (store : List ℕ) (shaped : Shaped s) (w : isWithin s ≡ true) (big : storeLength ≤ length store)
     (ids : Ids) (id i : ℕ) (m keys nonces : List ℕ) (sent : Sent m keys nonces) (ok : Recordable s store m id i) where
   abbrev r : ℕ
   r = recordPlace m (s .records) store
@@ -75,11 +75,7 @@ module _ (s : Coordinator) (store : List ℕ) (shaped : Shaped s) (b : s .commis
   room = ok .room
 
   good : All (Good n) (take (s .records .count) (s .records .rows))
-  good =
-      all-imp {Q = Good n} (take (s .records .count) (s .records .rows)) (λ (row : SignRoundInfo) (p : (length (row .slots) ≡ signerLimit) × (rowWithin n row ≡ true)). record { ten = p .0; within = p .1 })
-      (all-both (λ (row : SignRoundInfo). length (row .slots) ≡ signerLimit) (λ (row : SignRoundInfo). rowWithin n row ≡ true) (take (s .records .count) (s .records .rows))
-      (all-take (λ (row : SignRoundInfo). length (row .slots) ≡ signerLimit) (s .records .count) (s .records .rows) (shaped .slots))
-      (every-all (rowWithin n) (take (s .records .count) (s .records .rows)) (rows-within s (within s w))))
+  good = rows-good s shaped w
 
   shares-beside : Same sharesStart (signerLimit * shareBytes) store store′
   unfolding addedStore openedStore
@@ -90,7 +86,7 @@ module _ (s : Coordinator) (store : List ℕ) (shaped : Shaped s) (b : s .commis
       same-then (same-then (opening (ltb r (s .records .count))) (put-before _ (keysAt r i) keys sharesStart (signerLimit * shareBytes) (omega arith))) (put-before _ (noncesAt r i) nonces sharesStart (signerLimit * shareBytes) (omega arith))
     where
       opening : (c : Bool) → Same sharesStart (signerLimit * shareBytes) store (cond c store (put store (messageAt r) m))
-      opening true = record { long = refl; each = λ j p q. refl }
+      opening true = same-all sharesStart (signerLimit * shareBytes) store
       opening false = let t = sent in put-before store (messageAt r) m sharesStart (signerLimit * shareBytes) (omega arith)
 
   slot-within : slotWithin x ≡ true
@@ -122,15 +118,18 @@ module _ (s : Coordinator) (store : List ℕ) (shaped : Shaped s) (b : s .commis
           rw (getD-set-same (s .records .rows) r (emptyRow (length m)) noRow (omega arith), set-set (s .records .rows) r (emptyRow (length m)) (setSlot i x (emptyRow (length m))), add-one (s .records .count))
           (and-both (leb (suc (s .records .count)) recordLimit) _ (le-leb (suc (s .records .count)) recordLimit (omega arith)) (rw last more))
 
-  after-within : isWithin after ≡ true
+  pub after-within : isWithin after ≡ true
   after-within = let t = within s w in is-within after (record { config = t .config; message = t .message; records = records-within; shares = t .shares })
 
-  pub recorded : view after store′ ≡ commissioned (recording (responseFor ids id m keys nonces) (coordinatorOf s store))
+  pub recorded-seen : coordinatorOf after store′ ≡ recording (responseFor ids id m keys nonces) (coordinatorOf s store)
   unfolding coordinatorOf roundOf standingOf
-  recorded =
+  recorded-seen =
       let es = slotsOf (s .config) in
       let a = records-added es n n≤10 low (slots-rise 0 (idsOf (s .config))) id i (slot-in id 0 (idsOf (s .config)) i (ok .found)) (slots-one id (idsOf (s .config)) i (ok .found))
       ids m keys nonces sent i<n (s .records) store (records-few s (within s w)) (shaped .rows) good room big (ok .free) in
       let c : collect (sharesIn store (s .shares .slots)) es ≡ collect (sharesIn store′ (s .shares .slots)) es =
       shares-kept es n store store′ (s .shares .slots) n≤10 (shaped .shares) low (within s w .shares) shares-beside in
-      view-held after store′ b after-within ∙ rw (a, ← c)
+      rw (a, ← c)
+
+  pub recorded : s .commissioned ≡ true → view after store′ ≡ commissioned (recording (responseFor ids id m keys nonces) (coordinatorOf s store))
+  recorded b = view-held after store′ b after-within ∙ rw recorded-seen

@@ -1,6 +1,5 @@
 -- Laws of taking key generation's results.
 -- Assumes nothing.
 pub mod Walks
-pub mod Turns
 pub mod Flags
 pub mod Refines

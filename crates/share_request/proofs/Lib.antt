@@ -1,2 +1,3 @@
 -- Laws of the share request.
 pub mod Writes
+pub mod Requesting

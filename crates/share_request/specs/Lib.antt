@@ -1,2 +1,3 @@
 -- The share request of a record.
 pub mod ShareRequest
+pub mod Asking

@@ -1,5 +1,7 @@
 // The signature share request (kind 3) of a record, written from struct and store: the message and its recorded responses, ascending by
 // signer, each as it was sent.
+pub mod asking;
+
 ghost use mathlib.Core.Path.{_≡_};
 ghost use lib.ListN.{length};
 ghost use Rattle.framing.specs.Writing.{Wrote, written};

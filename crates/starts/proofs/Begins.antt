@@ -2,25 +2,17 @@
 -- Assumes nothing.
 use Prim.Native.Nat.{ℕ}
 use mathlib.Core.Path.{_≡_}
-use mathlib.Core.Bool.{Bool, true, false, cond}
+use mathlib.Core.Bool.{Bool, true, false}
 use mathlib.Core.List.{List}
 use Rattle.state_table.specs.declared.State.the-variants.{NonceRequest}
 use Rattle.state_table.specs.States.{position}
 use Rattle.state_table.specs.Moves.{canMoveTo}
 use Rattle.state.specs.declared.answers.Done.{Done}
 use Rattle.state.specs.declared.fields.Coordinator.{Coordinator}
-use Rattle.state.specs.Turns.{Turn, Did, refusedAnswer}
-use Rattle.state.proofs.Turns.{error-did}
+use Rattle.state.specs.Turns.{Turn, Did, errorTurn, refusedAnswer}
+use Rattle.state.proofs.Turns.{error-did, answered-no, answered-yes}
 use Rattle.starts.specs.declared.naming.Start.{Start}
-use Rattle.starts.specs.Starts.{startNamed, requestTurn, errorTurn, namedTurn, roundTurn}
-
--- a question answered no, and yes
-module _ (a : Bool) (x y : Turn) (store out : List ℕ) (r : Done) (out′ : List ℕ) where
-  answered-no : a ≡ false → Did y out r store out′ → Did (cond a x y) out r store out′
-  answered-no e d = rw e d
-
-  answered-yes : a ≡ true → Did x out r store out′ → Did (cond a x y) out r store out′
-  answered-yes e d = rw e d
+use Rattle.starts.specs.Starts.{startNamed, requestTurn, namedTurn, roundTurn}
 
 module _ (clock : ℕ) (message : List ℕ) (by : Start) (s : Coordinator) (store out : List ℕ) (r : Done) where
   abbrev rest : Coordinator → Turn
@@ -30,7 +22,7 @@ module _ (clock : ℕ) (message : List ℕ) (by : Start) (s : Coordinator) (stor
       s .keys .aggregate ≡ false → r ≡ record { answer = refusedAnswer 10; after = s } → Did (roundTurn clock message by s store) out r store out
   unfolding roundTurn
   begin-10 k d =
-      answered-no (s .keys .aggregate) (rest (startNamed message (by .«sign_id») s)) (errorTurn 10 s store) store out r out k (error-did store out d)
+      answered-no (s .keys .aggregate) (rest (startNamed message (by .«sign_id») s)) (errorTurn 10 s store) k (error-did store out d)
 
   module _
       (t : Coordinator) (named : t ≡ startNamed message (by .«sign_id») s) (move : Bool)
@@ -39,7 +31,7 @@ module _ (clock : ℕ) (message : List ℕ) (by : Start) (s : Coordinator) (stor
     where
       asked-11 : (out′ : List ℕ) → Did (rest t) out r store out′ → Did (roundTurn clock message by s store) out r store out′
       unfolding roundTurn
-      asked-11 out′ d = rw (← named) (answered-yes (s .keys .aggregate) (rest t) (errorTurn 10 s store) store out r out′ k d)
+      asked-11 out′ d = rw (← named) (answered-yes (s .keys .aggregate) (rest t) (errorTurn 10 s store) k d)
 
       pub begin-11 :
           move ≡ false → r ≡ record { answer = refusedAnswer 11; after = t } → Did (roundTurn clock message by s store) out r store out

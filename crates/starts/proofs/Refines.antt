@@ -1,15 +1,14 @@
 -- A start gives what the step says of what the struct and the store stand for.
 -- Assumes nothing.
 use Prim.Native.Nat.{ℕ, _≤_}
-use mathlib.Core.Path.{_≡_, refl, subst, _∙_}
-use mathlib.Core.Bool.{Bool, true, false, cond}
+use mathlib.Core.Path.{_≡_, refl, subst}
+use mathlib.Core.Bool.{Bool, true, cond}
 use mathlib.Core.List.{List, [], _∷_}
 use mathlib.Core.Option.{Option, some, none}
-use native.Mathlib.Omega.{arith}
 use borrow.Author.Tests.{leb-true, le-leb}
 use lib.Dec.{leb}
-use lib.ListN.{length, take}
-use Rattle.wire.specs.Bytes.{put, every}
+use lib.ListN.{length}
+use Rattle.wire.specs.Bytes.{every}
 use Rattle.layout.specs.declared.SignatureType.{SignatureType}
 use Rattle.layout.specs.Limits.{messageLimit}
 use Rattle.state_table.specs.declared.State.the-variants.{NonceRequest}
@@ -24,15 +23,15 @@ use Rattle.step_definition.specs.Step.{own, stepOf, step}
 use Rattle.state.specs.declared.fields.Coordinator.{Coordinator}
 use Rattle.state.specs.Counts.{isWithin, recordsWithin}
 use Rattle.state.specs.View.{view, coordinatorOf, standingOf, roundOf, rowsFrom, positionOf, rootBytes, reading}
-use Rattle.state.specs.Turns.{Turn, Refines}
-use Rattle.state.proofs.Store.{put-read}
+use Rattle.state.specs.Turns.{Refines}
+use Rattle.round.proofs.Viewed.{message-read}
 use Rattle.state.proofs.Within.{within, is-within}
 use Rattle.state.proofs.Moves.{move-viewed}
-use Rattle.state.proofs.Refines.{on-held, view-held, callOf}
+use Rattle.state.proofs.Refines.{on-held, view-held, callOf, ask-refines, error-refines}
 use Rattle.starts.specs.declared.naming.SignId.{SignId}
 use Rattle.starts.specs.declared.naming.SignId.the-variants.{Next, Given}
 use Rattle.starts.specs.declared.naming.Start.{Start}
-use Rattle.starts.specs.Starts.{signIdOf, startNamed, startRequested, requestBytes, requestTurn, errorTurn, namedTurn, roundTurn, askingStart, startTurn}
+use Rattle.starts.specs.Starts.{signIdOf, startNamed, startRequested, requestBytes, requestTurn, namedTurn, roundTurn, askingStart, startTurn}
 
 -- the definition's arguments
 abbrev pub idGiven : SignId → Option ℕ
@@ -47,19 +46,6 @@ pub record Sized (s : Coordinator) (by : Start) : Type 0 where
   pub bytes : length (s .message .bytes) ≡ messageLimit
   pub kept : length (s .position .root) ≡ 32
   pub given : length (by .root) ≡ 32
-
--- a question that the struct and the definition answer alike
-ask-refines : {x y : Turn} {o p : A.Outcome} (a b : Bool) → a ≡ b → (a ≡ true → Refines x o) → (a ≡ false → Refines y p) → Refines (cond a x y) (cond b o p)
-ask-refines {x} {y} {o} {p} a b e f g = subst (λ (b : Bool). Refines (cond a x y) (cond b o p)) e (by a f g)
-  where
-    by : (a : Bool) → (a ≡ true → Refines x o) → (a ≡ false → Refines y p) → Refines (cond a x y) (cond a o p)
-    by true f g = f refl
-    by false f g = g refl
-
-error-refines :
-    (n : ℕ) (s : Coordinator) (store : List ℕ) (c : Defined) → s .commissioned ≡ true → isWithin s ≡ true → coordinatorOf s store ≡ c
-    → Refines (errorTurn n s store) (A.failing n [] c)
-error-refines n s store c b w e = record { answer = refl; events = refl; after = view-held s store b w ∙ rw e }
 
 -- the nonces asked for, in the definition
 abbrev pub asksNonces : ℕ → SignatureType → List ℕ → Defined → A.Outcome
@@ -93,12 +79,8 @@ module _ (message : List ℕ) (few : length message ≤ messageLimit) (s : Coord
       → coordinatorOf (startNamed message id s) store
       ≡ naming (record { message = message; signature-type = t; root = root; sign-id = idGiven id }) (coordinatorOf s store)
   unfolding startNamed signIdOf coordinatorOf standingOf roundOf
-  named-viewed t root store Next =
-      let read : take (length message) (put (s .message .bytes) 0 message) ≡ message = put-read (s .message .bytes) 0 message (length message) refl (omega arith) in
-      rw read
-  named-viewed t root store (Given n) =
-      let read : take (length message) (put (s .message .bytes) 0 message) ≡ message = put-read (s .message .bytes) 0 message (length message) refl (omega arith) in
-      rw read
+  named-viewed t root store Next = rw (message-read message few s long)
+  named-viewed t root store (Given n) = rw (message-read message few s long)
 
 -- 11, of a struct with message and sign id stored that stands for c
 pub named-refines :

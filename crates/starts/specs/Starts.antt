@@ -5,7 +5,6 @@ use mathlib.Core.Bool.{true, false, cond}
 use mathlib.Core.List.{List, [], _∷_, _++_}
 use lib.Dec.{leb}
 use lib.ListN.{length, take, drop}
-use Rattle.wire.specs.Bytes.{put}
 use Rattle.layout.specs.declared.SignatureType.{SignatureType}
 use Rattle.layout.specs.Limits.{messageLimit}
 use Rattle.layout.specs.Messages as M
@@ -18,10 +17,10 @@ use Rattle.step_definition.specs.Effects.{rootFor}
 use Rattle.step_definition.specs.Calls as A
 use Rattle.state.specs.declared.answers.Asks.{Asks}
 use Rattle.state.specs.declared.fields.Reading.the-variants.{At}
-use Rattle.state.specs.declared.fields.Message.{Message}
 use Rattle.state.specs.declared.fields.Coordinator.{Coordinator}
 use Rattle.state.specs.Setters.{setIds, setMessage, setPosition, setRecords, setClocks}
-use Rattle.state.specs.Turns.{Turn, turn, asked, unless}
+use Rattle.state.specs.Turns.{Turn, errorTurn, asked, unless}
+use Rattle.round.specs.Round.{messageWith}
 use Rattle.starts.specs.declared.naming.SignId.{SignId}
 use Rattle.starts.specs.declared.naming.SignId.the-variants.{Next, Given}
 use Rattle.starts.specs.declared.naming.Start.{Start}
@@ -30,10 +29,6 @@ use Rattle.starts.specs.declared.naming.Start.{Start}
 unfoldable pub signIdOf : SignId → ℕ → ℕ
 signIdOf Next last = next last
 signIdOf (Given n) last = n
-
--- the message's bytes over the old ones; those past it stay
-abbrev pub messageWith : List ℕ → Message → Message
-messageWith message m = record { bytes = put (m .bytes) 0 message; len = length message }
 
 -- message and sign id stored
 unfoldable pub startNamed : List ℕ → SignId → Coordinator → Coordinator
@@ -80,10 +75,6 @@ requestTurn clock t root s store =
       after = after;
       store = store;
     }
-
--- an error; s is the struct after, and nothing is sent
-abbrev pub errorTurn : ℕ → Coordinator → List ℕ → Turn
-errorTurn n s store = turn (A.refusing A.error n []) s store
 
 -- "Move allowed (11)?", of a coordinator with message and sign id stored
 unfoldable pub namedTurn : ℕ → SignatureType → List ℕ → Coordinator → List ℕ → Turn

@@ -1,11 +1,10 @@
 // What is stored before the move is asked: the message and the sign id.
 ghost use mathlib.Core.Path.{_≡_};
-ghost use Rattle.starts.specs.Starts.{signIdOf, messageWith, startNamed};
+ghost use Rattle.starts.specs.Starts.{signIdOf, startNamed};
 use layout::Ids;
 use layout::ROOT_LENGTH;
 use layout::SignatureType;
 use state::fields::Coordinator;
-use state::fields::Message;
 
 // The sign id of a round: the one after the last round's, or a given one.
 pub enum SignId {
@@ -29,21 +28,11 @@ fn sign_id_of(id: SignId, last: u64) -> u64
     }
 }
 
-// The message's bytes over the old ones; those past it stay.
-fn with_message(old: Message, message: &[u8]) -> Message
-    ensures { λ r. ⌜ r ≡ messageWith (now (message .entry)) old ⌝ }
-{
-    let mut bytes = old.bytes;
-    wire::copy(&mut bytes, 0, message);
-    let len = message.len();
-    Message { bytes, len }
-}
-
 pub fn named(s: Coordinator, message: &[u8], id: SignId) -> Coordinator
     ensures { λ r. ⌜ r ≡ startNamed (now (message .entry)) id s ⌝ }
 {
     let old = s.message;
-    let stored = with_message(old, message);
+    let stored = round::with_message(old, message);
     let last = s.ids;
     let sign_id = sign_id_of(id, last.sign_id);
     let ids = Ids {

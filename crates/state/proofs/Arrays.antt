@@ -5,7 +5,7 @@ use mathlib.Core.Path.{_≡_, refl}
 use mathlib.Core.Bool.{Bool, true}
 use mathlib.Core.List.{List, [], _∷_}
 use native.Mathlib.Omega.{arith}
-use lib.ListN.{getD, set, take, replicate}
+use lib.ListN.{length, getD, set, take, replicate}
 use Rattle.wire.specs.Bytes.{every, All}
 use Rattle.wire.proofs.Lists.{and-left, and-right, and-both}
 
@@ -57,6 +57,16 @@ module _ {A : Type 0} where
   all-take P zero xs a = tt
   all-take P (suc n) [] a = tt
   all-take P (suc n) (x ∷ xs) a = (a .0, all-take P n xs (a .1))
+
+  pub all-set : (P : A → Type 0) (xs : List A) (i : ℕ) (x : A) → P x → All P xs → All P (set xs i x)
+  all-set P [] i x p a = tt
+  all-set P (y ∷ ys) zero x p a = (p, a .1)
+  all-set P (y ∷ ys) (suc i) x p a = (a .0, all-set P ys i x p (a .1))
+
+  pub all-get : (P : A → Type 0) (xs : List A) (i : ℕ) (d : A) → i < length xs → All P xs → P (getD xs i d)
+  all-get P [] i d l a = let z : ⊥ = omega arith in absurd z
+  all-get P (y ∷ ys) zero d l a = a .0
+  all-get P (y ∷ ys) (suc i) d l a = all-get P ys i d (omega arith) (a .1)
 
   -- two facts of each give a third
   pub all-both-imp : {P Q R : A → Type 0} (xs : List A) → ((x : A) → P x → Q x → R x) → All P xs → All Q xs → All R xs

@@ -44,7 +44,7 @@ counts-16 x vs g = rw length-map at (g .1 .1 .1 .1 .0 .1 .0 .1)
 pub shares-10 : (s : Shares) (vs : List Val) → Is Shares-row.the-row s vs → length (s .slots) ≡ 10
 shares-10 x vs g = rw length-map at (g .1 .1 .0 .1 .0 .1)
 
-each-byte : (ns : List ℕ) (us : List Val) → shadow (each ℕ (u8-field .row .own) (map (u8-field .into) ns) us) → Bytes ns
+pub each-byte : (ns : List ℕ) (us : List Val) → shadow (each ℕ (u8-field .row .own) (map (u8-field .into) ns) us) → Bytes ns
 each-byte [] us g i = omega arith
 each-byte (n ∷ ns) [] g i = absurd g
 each-byte (n ∷ ns) (u ∷ us) g zero = g .0 .1

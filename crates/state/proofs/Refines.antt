@@ -1,7 +1,7 @@
 -- What every call is asked first: the struct's answer is the definition's.
 -- Assumes nothing.
 use Prim.Native.Nat.{ℕ}
-use mathlib.Core.Path.{_≡_, refl, ap, _∙_}
+use mathlib.Core.Path.{_≡_, refl, sym, ap, subst, _∙_}
 use mathlib.Core.Bool.{Bool, true, false, cond, not, _||_}
 use mathlib.Core.List.{List, []}
 use mathlib.Core.Option.{Option, some, none}
@@ -20,7 +20,7 @@ use Rattle.state.specs.declared.answers.Passed.the-variants.{Yes, No}
 use Rattle.state.specs.declared.fields.Coordinator.{Coordinator}
 use Rattle.state.specs.Counts.{isWithin}
 use Rattle.state.specs.View.{view, heldIf, coordinatorOf}
-use Rattle.state.specs.Turns.{Turn, turn, asked, askedIf, unless, Refines}
+use Rattle.state.specs.Turns.{Turn, turn, errorTurn, asked, askedIf, unless, Refines}
 
 abbrev asksOf : Asks → Q.Asks
 asksOf a = record { no-job = a .«no_job»; a-job = a .«a_job»; room = a .room }
@@ -51,27 +51,37 @@ module _ (k : A.Call) (o : A.Operation) (a : Asks) (same : Q.asks o ≡ asksOf a
   refuses s store h n vs e = record { answer = refl; events = refl; after = e }
 
   passed :
-      (s : Coordinator) (store : List ℕ) (rest : Turn) (c : Defined) (n : Option ℕ) → view s store ≡ commissioned c → Refines rest (S.own k o c)
+      (s : Coordinator) (store : List ℕ) (rest : Turn) (c : Defined) (n : Option ℕ) → view s store ≡ commissioned c
+      → (passedOf n ≡ Yes → Refines rest (S.own k o c))
       → Refines (unless (passedOf n) s store rest) (given n (λ (n : ℕ). A.failing n [] c) (S.own k o c))
   unfolding unless
-  passed s store rest c none e r = r
+  passed s store rest c none e r = r refl
   passed s store rest c (some n) e r = record { answer = refl; events = refl; after = e }
 
   by :
       (s : Coordinator) (store : List ℕ) (rest : Turn) (c : Defined) (b w : Bool) → k .store ≡ length store
-      → view s store ≡ heldIf b w c → (b ≡ true → w ≡ true → Refines rest (S.own k o c))
+      → view s store ≡ heldIf b w c
+      → (askedIf a (length store) (k .room) (c .job) b w ≡ Yes → b ≡ true → w ≡ true → Refines rest (S.own k o c))
       → Refines (unless (askedIf a (length store) (k .room) (c .job) b w) s store rest) (S.onHeld k o (heldIf b w c))
   unfolding S.onHeld heldIf unless askedIf
-  by s store rest c true true l e r = rw (← l) (rw (before-asked c) at (passed s store rest c (Q.before k o c) e (r refl refl)))
+  by s store rest c true true l e r =
+      rw (← l) (rw (before-asked c) at (passed s store rest c (Q.before k o c) e (λ y. r (rw (← l) (sym (before-asked c) ∙ y)) refl refl)))
   by s store rest c true false l e r = refuses s store miscounted 4 [] e
   by s store rest c false w l e r = refuses s store uncommissioned 4 [] e
+
+  -- with what the questions' answers say of struct and lengths
+  pub on-asked :
+      (s : Coordinator) (store : List ℕ) (rest : Turn) → k .store ≡ length store
+      → (asked a (length store) (k .room) s ≡ Yes → s .commissioned ≡ true → isWithin s ≡ true → Refines rest (S.own k o (coordinatorOf s store)))
+      → Refines (unless (asked a (length store) (k .room) s) s store rest) (S.onHeld k o (view s store))
+  unfolding asked view coordinatorOf
+  on-asked s store rest l r = by s store rest (coordinatorOf s store) (s .commissioned) (isWithin s) l refl r
 
   pub on-held :
       (s : Coordinator) (store : List ℕ) (rest : Turn) → k .store ≡ length store
       → (s .commissioned ≡ true → isWithin s ≡ true → Refines rest (S.own k o (coordinatorOf s store)))
       → Refines (unless (asked a (length store) (k .room) s) s store rest) (S.onHeld k o (view s store))
-  unfolding asked view coordinatorOf
-  on-held s store rest l r = by s store rest (coordinatorOf s store) (s .commissioned) (isWithin s) l refl r
+  on-held s store rest l r = on-asked s store rest l (λ y. r)
 
 -- a struct that is commissioned, whose counts are within the limits, stands for its coordinator
 pub view-held : (s : Coordinator) (store : List ℕ) → s .commissioned ≡ true → isWithin s ≡ true → view s store ≡ commissioned (coordinatorOf s store)
@@ -81,3 +91,16 @@ view-held s store b w = ap (λ (x : Bool). heldIf x (isWithin s) (coordinatorOf 
 -- a call with its clock reading, verdict and the lengths of what it is lent
 abbrev pub callOf : A.Request → ℕ → Bool → ℕ → ℕ → A.Call
 callOf q clock verdict store room = record { request = q; clock = clock; verdict = verdict; store = store; room = room }
+
+-- a question that the struct and the definition answer alike
+pub ask-refines : {x y : Turn} {o p : A.Outcome} (a b : Bool) → a ≡ b → (a ≡ true → Refines x o) → (a ≡ false → Refines y p) → Refines (cond a x y) (cond b o p)
+ask-refines {x} {y} {o} {p} a b e f g = subst (λ (b : Bool). Refines (cond a x y) (cond b o p)) e (by a f g)
+  where
+    by : (a : Bool) → (a ≡ true → Refines x o) → (a ≡ false → Refines y p) → Refines (cond a x y) (cond a o p)
+    by true f g = f refl
+    by false f g = g refl
+
+pub error-refines :
+    (n : ℕ) (s : Coordinator) (store : List ℕ) (c : Defined) → s .commissioned ≡ true → isWithin s ≡ true → coordinatorOf s store ≡ c
+    → Refines (errorTurn n s store) (A.failing n [] c)
+error-refines n s store c b w e = record { answer = refl; events = refl; after = view-held s store b w ∙ rw e }

@@ -35,6 +35,18 @@ tellingAnswer v = record { class = Result; number = 0; first = v; second = 0; va
 abbrev pub sendingAnswer : Class → ℕ → Answer
 sendingAnswer k n = record { class = k; number = 0; first = 0; second = 0; values = 0; mark = false; length = n }
 
+-- an id that is not current, with what was got and what was expected; a result about a signer
+abbrev pub mismatchedAnswer : Class → ℕ → ℕ → ℕ → Answer
+mismatchedAnswer k n got expected =
+    record { class = k; number = n; first = got; second = expected; values = 2; mark = false; length = 0 }
+
+abbrev pub blamingAnswer : ℕ → ℕ → Answer
+blamingAnswer n signer = record { class = Result; number = n; first = signer; second = 0; values = 1; mark = false; length = 0 }
+
+-- a job in the answer buffer, with its mark
+abbrev pub handingAnswer : Bool → ℕ → Answer
+handingAnswer whole n = record { class = Job; number = 0; first = 0; second = 0; values = 0; mark = whole; length = n }
+
 -- a struct's answer as 01's
 abbrev pub classOf : Class → A.Class
 classOf Nothing = A.nothing
@@ -63,6 +75,10 @@ pub record Turn : Type 0 where
 -- a call in which nothing happened that is told
 abbrev pub turn : A.Answer → Coordinator → List ℕ → Turn
 turn a s store = record { answer = a; events = []; after = s; store = store }
+
+-- an error; s is the struct after, and nothing is sent
+abbrev pub errorTurn : ℕ → Coordinator → List ℕ → Turn
+errorTurn n s store = turn (A.refusing A.error n []) s store
 
 -- the call did what the definition says
 pub record Did (t : Turn) (out : List ℕ) (r : Done) (store′ out′ : List ℕ) : Type 0 where

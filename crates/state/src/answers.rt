@@ -2,6 +2,7 @@
 ghost use mathlib.Core.Path.{_≡_};
 ghost use mathlib.Core.Bool.{not, _||_};
 ghost use Rattle.state.specs.Turns.{plainAnswer, refusedAnswer, failedAnswer, tellingAnswer, sendingAnswer, asked};
+ghost use Rattle.state.specs.Turns.{mismatchedAnswer, blamingAnswer, handingAnswer};
 use crate::counts;
 use crate::fields::Coordinator;
 use layout::ANSWER_LENGTH;
@@ -109,6 +110,60 @@ pub fn telling(s: Coordinator, value: u64) -> Done
             values: 1,
             mark: false,
             length: 0,
+        },
+        after: s,
+    }
+}
+
+// An id that is not current: what was got and what was expected.
+pub fn mismatched(s: Coordinator, class: Class, number: u32, got: u64, expected: u64) -> Done
+    ensures { λ r. ⌜ r ≡ record { answer = mismatchedAnswer class number got expected; after = s } ⌝ }
+{
+    Done {
+        answer: Answer {
+            class,
+            number,
+            first: got,
+            second: expected,
+            values: 2,
+            mark: false,
+            length: 0,
+        },
+        after: s,
+    }
+}
+
+// A result with a number and the signer that it is about.
+pub fn blaming(s: Coordinator, number: u32, signer: u32) -> Done
+    ensures { λ r. ⌜ r ≡ record { answer = blamingAnswer number signer; after = s } ⌝ }
+{
+    Done {
+        answer: Answer {
+            class: Class::Result,
+            number,
+            first: signer as u64,
+            second: 0,
+            values: 1,
+            mark: false,
+            length: 0,
+        },
+        after: s,
+    }
+}
+
+// A job in the answer buffer, with its mark.
+pub fn handing(s: Coordinator, mark: bool, length: usize) -> Done
+    ensures { λ r. ⌜ r ≡ record { answer = handingAnswer mark length; after = s } ⌝ }
+{
+    Done {
+        answer: Answer {
+            class: Class::Job,
+            number: 0,
+            first: 0,
+            second: 0,
+            values: 0,
+            mark,
+            length,
         },
         after: s,
     }

@@ -12,3 +12,10 @@ pub const NONCES_START: usize = MESSAGE_LIMIT + KEY_BYTES;
 pub const RESPONSE_BYTES: usize = 1120;
 
 pub const RECORD_BYTES: usize = 11456;
+
+// where the first signer's shares lie, how far the next signer's are, and where in them the shares' key ids begin
+pub const SHARES_START: usize = 45824;
+
+pub const SHARE_BYTES: usize = 640;
+
+pub const SHARE_KEYS_START: usize = 576;

@@ -14,7 +14,7 @@ use Rattle.layout.specs.Fits.{RequestFits}
 use Rattle.layout.proofs.RoundTrip.{messageIn-encode, within-addressable}
 use Rattle.step_definition.specs.Coordinator.{Coordinator, Held, commissioned}
 use Rattle.step_definition.specs.Calls.{Call, Answer}
-use Rattle.step_definition.specs.Counts.{withinLimits, CoordinatorFits}
+use Rattle.step_definition.specs.Counts.{withinLimits, RoundFits}
 use Rattle.step_definition.specs.Demand3.{Opens, SameFour}
 use Rattle.step_definition.specs.Run.{run}
 use Rattle.step_definition.specs.Step.{step}
@@ -22,12 +22,12 @@ use Rattle.step_definition.proofs.Answers.{nonce-request-answer, kind-1
 use Rattle.step_definition.proofs.EqualFutures.{equal-futures}
 use Rattle.step_definition.proofs.Leaves.{Fresh, opening}
 
--- a call that writes a packet of kind 1 and leaves c, which can be laid out in full
+-- a call that writes a packet of kind 1 and leaves c, whose ids, message and root fit their fields
 pub record Writes1 (k : Call) (h : Held) (c : Coordinator) : Type 0 where
   pub kind : getD (step k h .answer .bytes) 0 0 ≡ 1
   pub leaves : step k h .after ≡ commissioned c
   pub within : withinLimits c ≡ true
-  pub fits : CoordinatorFits c
+  pub fits : RoundFits c
 
 -- such a call opens a round
 opens-round : (k : Call) (h : Held) (c : Coordinator) → Writes1 k h c → (r : NonceRequest) × Opens k h r c
@@ -36,7 +36,7 @@ opens-round k h c w =
     (o .0, record { sends = o .2 .sends; leaves = w .leaves })
 
 -- its request is what the bytes say
-module _ {now : ℕ} {r : NonceRequest} {c : Coordinator} (f : Fresh now r c) (g : CoordinatorFits c) where
+module _ {now : ℕ} {r : NonceRequest} {c : Coordinator} (f : Fresh now r c) (g : RoundFits c) where
   request-fits : RequestFits r
   request-fits = record { ids = rw (f .ids) at (g .ids); message = rw (f .message) at (g .message); root = rw (f .position) at (g .root) }
 

@@ -51,6 +51,12 @@ abbrev pub rootSize : StateType → ℕ
 rootSize Untyped = 0
 rootSize (Typed t) = rootLength (typeNumber t)
 
+-- the numbers of a coordinator fit their fields: those that a nonce request tells, and all that packets tell
+pub record RoundFits (c : Coordinator) : Type 0 where
+  pub ids : IdsFit (c .ids)
+  pub message : Bytes (c .round .message)
+  pub root : Sized (rootSize (typeIn (c .position .state))) (c .position .root)
+
 pub record CoordinatorFits (c : Coordinator) : Type 0 where
   pub ids : IdsFit (c .ids)
   pub message : Bytes (c .round .message)

@@ -13,7 +13,7 @@ use state::answers::Done;
 use state::fields::Coordinator;
 
 // The place of the current message's record.
-fn current_place(s: Coordinator, store: &[u8]) -> usize
+pub fn current_place(s: Coordinator, store: &[u8]) -> usize
     requires { ⌜ (s .message .len ≤ messageLimit) × (s .records .count ≤ recordLimit) ⌝ }
     ensures { λ r. ⌜ r ≡ currentPlace s (now (store .entry)) ⌝ }
 {

@@ -11,8 +11,8 @@ Inv-loop store kept₀ piece₀ line₀ ended₀ left₀ kept piece line ended l
 abbrev μ-loop : tie.MeasureT-loop
 μ-loop store kept₀ piece₀ line₀ ended₀ left₀ kept piece line ended left = left
 
-pattern-requires : tie.Need-pattern-requires Inv-loop μ-loop
-pattern-requires c κs = search needs
+store-requires : tie.Need-store-requires Inv-loop μ-loop
+store-requires c κs = search needs
 
 buffer-requires : tie.Need-buffer-requires Inv-loop μ-loop
 buffer-requires c κs = search needs
@@ -65,7 +65,7 @@ main-spec =
     (tie.spec
     Inv-loop
     μ-loop
-    pattern-requires
+    store-requires
     buffer-requires
     empty-requires
     loop-holds

@@ -1,5 +1,6 @@
--- `run_piece` ends: what is left of the piece falls.
+-- `run_piece` ends: what is left of the piece falls, since a line's end lies behind its start.
 use borrow.Author.Needs.{needs}
+use native.Mathlib.Omega.{arith}
 use Prim.Native.Nat.{_-_}
 use lib.ListN.{length}
 use Rattle.bench.proofs.run_piece.Statement.{statement}
@@ -14,7 +15,7 @@ run-piece-spec =
     (λ c. search needs)
     (λ c κs. search needs)
     (λ c κs. search needs)
-    (λ c. search needs)
-    (λ c. search needs)
+    (λ c κs. search needs)
+    (λ c. omega (arith, c .before .before .before .before .after .ensures (search needs)))
     (λ c. search needs)
     (λ c. search needs))

@@ -6,9 +6,8 @@ use mathlib.Core.Path.{sym, ap, _∙_}
 use Rattle.state.specs.declared.answers.Done.{Done}
 use Rattle.state.specs.declared.fields.Coordinator.{Coordinator}
 use Rattle.state.specs.Turns.{plainAnswer}
-use Rattle.state.proofs.Turns.{refused-did, quiet-did}
+use Rattle.state.proofs.Turns.{refused-did, quiet-did, passed-did, passed-few}
 use Rattle.results.specs.Results.{resultsTurn}
-use Rattle.results.proofs.Turns.{passed-did, passed-few}
 
 abbrev plainly : Coordinator → Done
 plainly t = record { answer = plainAnswer; after = t }

@@ -1,0 +1,3 @@
+-- What a round's parts stand for.
+-- Assumes nothing.
+pub mod Viewed

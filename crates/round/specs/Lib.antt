@@ -1,0 +1,2 @@
+-- Parts of a round.
+pub mod Round
