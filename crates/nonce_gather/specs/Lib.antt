@@ -1,0 +1,2 @@
+-- NonceGather at the level of struct and store.
+pub mod NonceGather

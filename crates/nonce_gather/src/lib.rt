@@ -1,0 +1,2 @@
+// NonceGather, on a response.
+pub mod gather;
