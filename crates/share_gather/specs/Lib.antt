@@ -1,0 +1,2 @@
+-- What SigShareGather does on a response.
+pub mod ShareGather

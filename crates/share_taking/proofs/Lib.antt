@@ -1,0 +1,4 @@
+-- Laws of taking shares.
+-- Assumes nothing.
+pub mod Answering
+pub mod Refines

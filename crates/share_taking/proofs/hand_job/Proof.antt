@@ -1,0 +1,73 @@
+-- `hand_job`: what the writer asks holds, so it writes.
+-- Assumes nothing.
+use borrow.Author.Needs.{needs}
+use native.Mathlib.Omega.{arith}
+use lib.ListN.{length-take}
+use Rattle.state.proofs.Given.{coordinator-bytes}
+use Rattle.state.proofs.Within.{within, config-few, records-few}
+use Rattle.state.proofs.Turns.{never-refused}
+use Rattle.signing_job.proofs.Readiness.{ready}
+use Rattle.share_taking.proofs.Answering.{message-short, job-did}
+use Rattle.share_taking.proofs.hand_job.Statement.{statement}
+use Rattle.share_taking.proofs.hand_job.Tie as tie
+
+mul-row : tie.Need-mul-row
+mul-row c = omega (arith, c .before .before .before .before .pre .known, records-few _ (within _ (c .before .before .before .before .pre .within)))
+
+element-copy-out-row : tie.Need-element-copy-out-row
+element-copy-out-row c = omega (arith, c .before .before .before .before .pre .known, records-few _ (within _ (c .before .before .before .before .pre .within)))
+
+is-whole-requires : tie.Need-is-whole-requires
+is-whole-requires c κs = config-few _ (within _ (c .before .before .before .before .before .before .pre .within))
+
+array-share-prefix-bytes : tie.Need-array-share-prefix-bytes
+array-share-prefix-bytes c = omega (arith, coordinator-bytes (c .before .before .before .before .before .before .before .before .before .before .args .s) _ (c .before .before .before .before .before .before .before .before .before .before .good .0), message-short _ (c .before .before .before .before .before .before .before .before .before .before .pre .within))
+
+slice-aggregate-write-signing-job : tie.Need-slice-aggregate-write-signing-job
+slice-aggregate-write-signing-job c = rw length-take (omega (arith, coordinator-bytes (c .before .before .before .before .before .before .before .before .before .before .before .args .s) _ (c .before .before .before .before .before .before .before .before .before .before .before .good .0), message-short _ (c .before .before .before .before .before .before .before .before .before .before .before .pre .within)))
+
+write-signing-job-requires : tie.Need-write-signing-job-requires
+write-signing-job-requires c κs = ready _ _ _ _ _ (c .before .before .before .before .before .before .before .before .before .before .before .pre .within) (c .before .before .before .before .before .before .before .before .before .before .before .pre .known) (c .before .before .before .before .before .before .before .before .before .before .before .pre .stored) (rw length-take (omega (arith, message-short _ (c .before .before .before .before .before .before .before .before .before .before .before .pre .within)))) (c .before .before .before .before .before .before .before .before .before .before .before .pre .wide)
+
+enum-known-written : tie.Need-enum-known-written
+enum-known-written c = search needs
+
+handing-requires : tie.Need-handing-requires
+handing-requires c κs = tt
+
+enum-told : tie.Need-enum-told
+enum-told c = search needs
+
+refused-requires : tie.Need-refused-requires
+refused-requires c κs = tt
+
+same-length : tie.Need-same-length
+same-length c = search needs
+
+returns : tie.Need-returns
+returns c id = job-did _ id _ _ _ _ (c .before .before .before .before .before .before .before .before .before .before .before .is-whole .ensures _ _) (c .handing .ensures) (c .before .before .before .before .before .before .write-signing-job .ensures) (c .before .before .written .given .1)
+
+same-length-2 : tie.Need-same-length-2
+same-length-2 c = search needs
+
+returns-2 : tie.Need-returns-2
+returns-2 c id = absurd (never-refused (c .before .before .before .before .before .write-signing-job .ensures) (c .before .enum-told .given .1))
+
+pub hand-job-spec : {M : Type 1} → statement M
+hand-job-spec =
+    tie.close
+    (tie.spec
+    mul-row
+    element-copy-out-row
+    is-whole-requires
+    array-share-prefix-bytes
+    slice-aggregate-write-signing-job
+    write-signing-job-requires
+    enum-known-written
+    handing-requires
+    enum-told
+    refused-requires
+    same-length
+    returns
+    same-length-2
+    returns-2)

@@ -1,0 +1,2 @@
+-- What taking a signer's shares does.
+pub mod Taking

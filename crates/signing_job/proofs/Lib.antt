@@ -1,0 +1,10 @@
+-- Laws of the aggregator's job.
+-- Assumes nothing.
+pub mod Found
+pub mod Placing
+pub mod Joined
+pub mod Holding
+pub mod Writes
+pub mod Readiness
+pub mod Viewed
+pub mod Waiting

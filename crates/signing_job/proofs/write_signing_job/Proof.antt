@@ -1,0 +1,54 @@
+-- `write_signing_job`: the walk's places are those of the view's job.
+-- Assumes nothing.
+use borrow.Author.Needs.{needs}
+use Rattle.signing_job.proofs.write_signing_job.Statement.{statement}
+use Rattle.signing_job.proofs.write_signing_job.Tie as tie
+use mathlib.Core.Path.{_≡_, ap, _∙_}
+use native.Mathlib.Omega.{arith}
+use lib.ListN.{length, getD}
+use Rattle.job.specs.Job.{signersIn}
+use Rattle.state.specs.Slots.{collect}
+use Rattle.state.specs.View.{slotsOf, noRow}
+use Rattle.signing_job.specs.Places.{jobPlaceIn}
+use Rattle.signing_job.proofs.Writes.{writes}
+
+ascending-requires : tie.Need-ascending-requires
+ascending-requires c κs = c .before .before .before .before .pre .signers
+
+mul-row : tie.Need-mul-row
+mul-row c = search needs
+
+element-copy-out-row : tie.Need-element-copy-out-row
+element-copy-out-row c = search needs
+
+job-places-requires : tie.Need-job-places-requires
+job-places-requires c κs = (omega (arith, c .before .before .before .before .before .before .before .before .pre .row), c .before .before .before .ascending .ensures .1)
+
+write-job-requires : tie.Need-write-job-requires
+write-job-requires c κs = tt
+
+same-length : tie.Need-same-length
+same-length c = search needs
+
+returns : tie.Need-returns
+returns c =
+    let start = c .before .before .before .before .before .before .before .before .before .before .before .before .before .before .before .before in
+    let a = start .args in
+    let places = c .before .before .before .before .before .before .before .job-places in
+    let in-order = c .before .before .before .before .before .before .before .before .before .before .before .ascending .ensures .0 in
+    let f = jobPlaceIn (a .r) (getD (a .s .records .rows) (a .r) noRow) (a .s .shares) in
+    let walked : signersIn (places .result) ≡ collect f (slotsOf (a .s .config)) = places .ensures .0 ∙ ap (collect f) in-order in
+    rw (← writes (a .s) (a .store .now) (a .r) (a .message .now) (a .signature-type) (length (a .out .now)) (start .pre) (places .result) (places .ensures .1) walked)
+    (c .before .before .write-job .ensures)
+
+pub write-signing-job-spec : {M : Type 1} → statement M
+write-signing-job-spec =
+    tie.close
+    (tie.spec
+    ascending-requires
+    mul-row
+    element-copy-out-row
+    job-places-requires
+    write-job-requires
+    same-length
+    returns)

@@ -1,0 +1,3 @@
+-- The aggregator's job of a record.
+pub mod Places
+pub mod SigningJob
