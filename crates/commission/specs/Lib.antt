@@ -1,0 +1,2 @@
+-- What commissioning does to the struct and the store.
+pub mod Commission

@@ -1,0 +1,8 @@
+-- Laws of the configuration that a host gives.
+-- Assumes nothing.
+pub mod Walks
+pub mod Given
+pub mod Sets
+pub mod Entries
+pub mod Asked
+pub mod Viewed
