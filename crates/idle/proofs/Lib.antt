@@ -1,0 +1,4 @@
+-- Laws of Idle.
+-- Assumes nothing.
+pub mod Turns
+pub mod Refines

@@ -1,0 +1,2 @@
+-- Idle at the level of struct and bytes.
+pub mod Idle

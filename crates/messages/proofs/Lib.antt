@@ -1,0 +1,6 @@
+-- Laws of messages by state.
+-- Assumes nothing.
+pub mod Sealed
+pub mod Taken
+pub mod Turns
+pub mod Refines

@@ -1,0 +1,3 @@
+// `process` and `process_message`: the two calls that bring a packet.
+pub mod entries;
+pub mod packets;
