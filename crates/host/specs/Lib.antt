@@ -1,0 +1,3 @@
+-- The calls together, as a host makes them.
+pub mod Host
+pub mod Demand3

@@ -1,0 +1,1 @@
+// Definitions and theorems about a host's calls, and no code: specs/ and proofs/.
