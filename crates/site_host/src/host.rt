@@ -1,5 +1,4 @@
 // What the host keeps between calls: the coordinator, and how much it lends of the store and of the answer buffer.
-use crate::dispatch;
 use script::print;
 use script::tokens;
 use site_calls::limits;
@@ -41,7 +40,7 @@ fn lend(host: Host, args: &[u8]) -> Host {
 // The call, with what is lent, and its answer printed.
 fn call(letter: u8, args: &[u8], s: Coordinator, store: &mut [u8], out: &mut [u8]) -> Coordinator {
     let before = print::sum_of(out);
-    let done = dispatch::call(letter, args, s, store, out);
+    let done = site_dispatch::call(letter, args, s, store, out);
     let answer = done.answer;
     answers::answer(answer, before, out);
     done.after

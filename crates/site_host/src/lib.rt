@@ -1,3 +1,2 @@
-// The host of Site's test program: what it keeps between calls, and one call by its letter.
-pub mod dispatch;
+// The host of Site's test program: what it keeps between calls.
 pub mod host;

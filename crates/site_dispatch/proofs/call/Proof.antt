@@ -1,7 +1,7 @@
 -- `call` asks nothing of its callees, and keeps the lengths of what it is lent.
 use borrow.Author.Needs.{needs}
-use Rattle.site_host.proofs.dispatch.call.Statement.{statement}
-use Rattle.site_host.proofs.dispatch.call.Tie as tie
+use Rattle.site_dispatch.proofs.call.Statement.{statement}
+use Rattle.site_dispatch.proofs.call.Tie as tie
 
 config-requires : tie.Need-config-requires
 config-requires c κs = tt
