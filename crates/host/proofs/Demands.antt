@@ -42,11 +42,12 @@ use Rattle.state.specs.Counts.{isWithin}
 use Rattle.state.specs.View.{coordinatorOf, roundOf, positionOf, rootBytes, view, heldIf}
 use Rattle.state.proofs.Limits.{view-limits}
 use Rattle.idle.proofs.Refines.{root-few}
-use Rattle.configuration.specs.declared.new_config.NewConfig.{NewConfig}
 use Rattle.configuration.specs.NewConfig.{newConfigOf}
-use Rattle.host.specs.Host.{commission, HostCall, Host, seen, turnOf, hostStep, viewed, hostRun, hostFinal, asRequest, asCall, Formed}
+use Rattle.host.specs.Host.{HostCall, Host, seen, turnOf, hostStep, viewed, hostRun, hostFinal, asRequest, asCall, Formed}
+use Rattle.host.specs.Demand3.{HostBegins, commissioning, opening}
 use Rattle.host.specs.Demand3.{Fits, kindWritten, HostPlain, later, firstKind3, named}
-use Rattle.host.proofs.Refines.{HostRefines, Makeable, call-refines, step-formed, final-formed, run-refines}
+use Rattle.host.specs.Host.{HostRefines, Makeable}
+use Rattle.host.proofs.Refines.{call-refines, step-formed, final-formed, run-refines}
 
 -- What a refusal changes, and who is marked
 
@@ -78,11 +79,6 @@ module _ (k : HostCall) (x : Host) (formed : Formed (x .struct)) (m : Makeable (
   -- a call that writes a packet of kind 1 opens a round
   opens-round : kindWritten k x ≡ 1 → (q : NonceRequest) × (c : Defined) × Opens (asCall k) (viewed x) q c
   opens-round e = kind-1-answer (asCall k) (viewed x) (sym (ap (λ (a : A.Answer). getD (a .bytes) 0 0) (r .answer)) ∙ e)
-
--- where a watch begins: at a commissioning, or at a call that writes a nonce request
-pub data HostBegins : Host → Type 0 where
-  commissioning : (k : HostCall) (x : Host) (g : NewConfig) → k .request ≡ commission g → Formed (x .struct) → Makeable (length (x .store)) k → HostBegins (hostStep k x)
-  opening : (k : HostCall) (x : Host) → kindWritten k x ≡ 1 → Formed (x .struct) → Makeable (length (x .store)) k → HostBegins (hostStep k x)
 
 begun : (y : Host) → HostBegins y → Begins (viewed y)
 unfolding asCall asRequest

@@ -31,21 +31,11 @@ use Rattle.starts.specs.Starts.{askingStart, startTurn}
 use Rattle.process_timeout.specs.ProcessTimeout.{askingTimeout, processTimeoutTurn}
 use Rattle.process.specs.Process.{askingPacket, receiveTurn, entryOf}
 use Rattle.host.specs.Host.{HostRequest, commission, setKey, takeResults, canMove, start, receive, processTimeout, aggregated, reset}
+use Rattle.host.specs.Host.{HostRefines, Makeable}
 use Rattle.host.specs.Host.{HostCall, Host, turnFor, turnOf, hostStep, viewed, hostRun, hostFinal, heldKey, signId, asRequest, asCall, Formed, GivenArrays}
 use Rattle.host.proofs.Lent.{view-lent, short-asked, short-step}
 use Rattle.host.proofs.Calls.{as-shaped, turn-refines}
 use Rattle.host.proofs.Keeps.{turn-keeps}
-
--- the same answer, the same events, and the host's struct and store after stand for what the step says
-pub record HostRefines (k : HostCall) (x : Host) : Type 0 where
-  pub answer : turnOf k x .answer ≡ step (asCall k) (viewed x) .answer
-  pub events : turnOf k x .events ≡ step (asCall k) (viewed x) .events
-  pub after : viewed (hostStep k x) ≡ step (asCall k) (viewed x) .after
-
--- a call that a host with a store of n bytes can make: it lends no more than there is
-pub record Makeable (n : ℕ) (k : HostCall) : Type 0 where
-  pub given : GivenArrays (k .request)
-  pub lent : k .lent ≤ n
 
 -- refused with 4
 unless-4 : (p : Passed) (s : Coordinator) (store : List ℕ) (rest : Turn) → p ≡ No 4 → unless p s store rest ≡ turn (A.refusing A.error 4 []) s store
@@ -184,3 +174,10 @@ final-formed (k ∷ ks) x f a =
     let kept = step-formed k x f (a .0) in
     let rest = final-formed ks (hostStep k x) (kept .0) (subst (λ (n : ℕ). All (Makeable n) ks) (sym (kept .1)) (a .1)) in
     (rest .0, rest .1 ∙ kept .1)
+
+-- a host may lend all that it has, and nothing
+pub lends-all : (n : ℕ) (k : HostCall) → GivenArrays (k .request) → k .lent ≡ n → Makeable n k
+lends-all n k a e = record { given = a; lent = omega (arith, e) }
+
+pub lends-nothing : (n : ℕ) (k : HostCall) → GivenArrays (k .request) → k .lent ≡ 0 → Makeable n k
+lends-nothing n k a e = record { given = a; lent = omega (arith, e) }

@@ -5,7 +5,7 @@ use mathlib.Core.Bool.{true, cond}
 use mathlib.Core.List.{List, [], _∷_}
 use mathlib.Core.Option.{Option, some, none}
 use lib.Dec.{eqb}
-use lib.ListN.{getD}
+use lib.ListN.{length, getD}
 use Rattle.wire.specs.Bytes.{Bytes}
 use Rattle.layout.specs.Fits.{IdsFit}
 use Rattle.layout.specs.Messages.{signatureShareRequest}
@@ -13,6 +13,8 @@ use Rattle.layout.specs.Encode.{encode}
 use Rattle.step_definition.specs.ResponseLog.{Place}
 use Rattle.step_definition.specs.Demand3.{plainRequest, groupKeyIn}
 use Rattle.state.specs.declared.fields.Coordinator.{Coordinator}
+use Rattle.configuration.specs.declared.new_config.NewConfig.{NewConfig}
+use Rattle.host.specs.Host.{commission, Formed, Makeable}
 use Rattle.host.specs.Host.{HostCall, Host, turnOf, hostStep, viewed, asRequest}
 
 -- the numbers of a struct's ids, message and root are those of their types
@@ -48,3 +50,11 @@ firstKind3 (k ∷ ks) x =
 unfoldable pub named : Option Place → Option Written
 named none = none
 named (some p) = some (record { call = p .call; bytes = encode (signatureShareRequest (p .request)) })
+
+-- where a watch begins: at a commissioning, or at a call that writes a nonce request
+pub data HostBegins : Host → Type 0 where
+  commissioning :
+      (k : HostCall) (x : Host) (g : NewConfig) → k .request ≡ commission g → Formed (x .struct) → Makeable (length (x .store)) k
+      → HostBegins (hostStep k x)
+  opening :
+      (k : HostCall) (x : Host) → kindWritten k x ≡ 1 → Formed (x .struct) → Makeable (length (x .store)) k → HostBegins (hostStep k x)

@@ -4,6 +4,7 @@ use mathlib.Core.Bool.{Bool}
 use mathlib.Core.List.{List, [], _∷_, _++_}
 use mathlib.Core.Option.{Option, some, none}
 use mathlib.Core.Path.{_≡_}
+use Prim.Native.Nat.{_≤_}
 use lib.ListN.{length, take, drop}
 use Rattle.wire.specs.Bytes.{All}
 use Rattle.layout.specs.Limits.{messageLimit, signerLimit, recordLimit}
@@ -12,6 +13,7 @@ use Rattle.step_definition.specs.Coordinator.{Held}
 use Rattle.step_definition.specs.Coordinator.{Coordinator as Defined}
 use Rattle.step_definition.specs.Calls as A
 use Rattle.step_definition.specs.Run.{Seen, maliciousIn}
+use Rattle.step_definition.specs.Step.{step}
 use Rattle.state.specs.declared.fields.SignRoundInfo.{SignRoundInfo}
 use Rattle.state.specs.declared.fields.Coordinator.{Coordinator}
 use Rattle.state.specs.View.{view, coordinatorOf, positionOf}
@@ -142,3 +144,14 @@ GivenArrays (receive entry p) = Unit {0}
 GivenArrays processTimeout = Unit {0}
 GivenArrays (aggregated ok) = Unit {0}
 GivenArrays reset = Unit {0}
+
+-- a call that a host with a store of n bytes can make: it lends no more than there is
+pub record Makeable (n : ℕ) (k : HostCall) : Type 0 where
+  pub given : GivenArrays (k .request)
+  pub lent : k .lent ≤ n
+
+-- the same answer, the same events, and the host's struct and store after stand for what the step says
+pub record HostRefines (k : HostCall) (x : Host) : Type 0 where
+  pub answer : turnOf k x .answer ≡ step (asCall k) (viewed x) .answer
+  pub events : turnOf k x .events ≡ step (asCall k) (viewed x) .events
+  pub after : viewed (hostStep k x) ≡ step (asCall k) (viewed x) .after
