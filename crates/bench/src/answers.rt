@@ -3,6 +3,7 @@ use crate::lists;
 use crate::writes;
 use layout::Header;
 use layout::Ids;
+use packet_in_hand::Opened;
 use script::print;
 use script::states;
 use script::tokens;
@@ -23,17 +24,25 @@ fn header(h: Header) {
     print::field(b", pairs ", h.pairs as u64);
 }
 
-// What the reader says of a packet.
-pub fn read(s: &[u8]) {
-    match packet::reader::read(s) {
-        packet::reader::Reading::Packet(h) => {
-            header(h);
-            lists::all(s, h.kind, h.pairs as usize);
-        }
-        packet::reader::Reading::Refused(n) => {
-            print::field(b"refused ", n as u64);
-        }
+// What the reader says of these bytes: refused with a number, or a packet with so many pairs.
+fn answer(s: &[u8], pairs: u16, refusal: u8) {
+    if refusal != 0 {
+        print::field(b"refused ", refusal as u64);
+        return;
     }
+    let h = frame::header(s);
+    header(h);
+    lists::all(s, h.kind, pairs as usize);
+}
+
+// The packet in hand, taken apart.
+fn tell<'a>(opened: Opened<'a>) {
+    let packet = opened.packet;
+    answer(packet.bytes, packet.pairs, opened.refusal)
+}
+
+pub fn read<'a>(s: &'a [u8]) {
+    tell(packet_in_hand::open(s))
 }
 
 fn yes_or_no(b: bool) {

@@ -8,7 +8,7 @@ ghost use Rattle.calls.specs.Calls.{setKeyTurn, moveTurn, aggregatedTurn};
 ghost use Rattle.calls.specs.Resets.{resetTurn};
 ghost use Rattle.results.specs.Results.{resultsTurn};
 ghost use Rattle.starts.specs.Starts.{startTurn};
-ghost use Rattle.process.specs.declared.entries.Entry.the-variants.{Process, ProcessMessage};
+ghost use Rattle.entries.specs.declared.Entry.the-variants.{Process, ProcessMessage};
 ghost use Rattle.process.specs.Process.{receiveTurn};
 ghost use Rattle.process_timeout.specs.ProcessTimeout.{processTimeoutTurn};
 use calls::aggregator;

@@ -13,9 +13,10 @@ use Rattle.state.specs.Turns.{asked}
 use Rattle.process_timeout.specs.Due.{dueOf}
 use Rattle.messages.specs.Verified.{verifiedAsked}
 use Rattle.messages.specs.Messages.{inNonces, inShares, turnIn, messageTurn}
-use Rattle.process.specs.declared.entries.Entry.{Entry}
-use Rattle.process.specs.declared.entries.Entry.the-variants.{Process, ProcessMessage}
-use Rattle.process.specs.Process.{processedTurn, entryTurn, decodedTurn, askingPacket, receiveTurn}
+use Rattle.entries.specs.declared.Entry.{Entry}
+use Rattle.entries.specs.declared.Entry.the-variants.{Process, ProcessMessage}
+use Rattle.entries.specs.Entries.{processedTurn, entryTurn}
+use Rattle.process.specs.Process.{decodedTurn, askingPacket, receiveTurn}
 use Rattle.host.specs.Host.{HostRequest, commission, setKey, takeResults, canMove, start, receive, processTimeout, aggregated, reset, turnFor, Formed, GivenArrays}
 pub use Rattle.host.proofs.KeptLengths.{Keeps}
 use Rattle.host.proofs.KeptLengths.{keeps-same, keeps-unless, keeps-cond}

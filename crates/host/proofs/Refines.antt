@@ -29,7 +29,8 @@ use Rattle.calls.specs.Resets.{asksNothing, resetTurn}
 use Rattle.results.specs.Results.{resultsTurn}
 use Rattle.starts.specs.Starts.{askingStart, startTurn}
 use Rattle.process_timeout.specs.ProcessTimeout.{askingTimeout, processTimeoutTurn}
-use Rattle.process.specs.Process.{askingPacket, receiveTurn, entryOf}
+use Rattle.entries.specs.Entries.{entryOf}
+use Rattle.process.specs.Process.{askingPacket, receiveTurn}
 use Rattle.host.specs.Host.{HostRequest, commission, setKey, takeResults, canMove, start, receive, processTimeout, aggregated, reset}
 use Rattle.host.specs.Host.{HostRefines, Makeable}
 use Rattle.host.specs.Host.{HostCall, Host, turnFor, turnOf, hostStep, viewed, hostRun, hostFinal, heldKey, signId, asRequest, asCall, Formed, GivenArrays}

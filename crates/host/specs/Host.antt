@@ -31,8 +31,9 @@ use Rattle.starts.specs.declared.naming.SignId.the-variants.{Next, Given}
 use Rattle.starts.specs.declared.naming.Start.{Start}
 use Rattle.starts.specs.Starts.{startTurn}
 use Rattle.process_timeout.specs.ProcessTimeout.{processTimeoutTurn}
-use Rattle.process.specs.declared.entries.Entry.{Entry}
-use Rattle.process.specs.Process.{receiveTurn, entryOf}
+use Rattle.entries.specs.declared.Entry.{Entry}
+use Rattle.entries.specs.Entries.{entryOf}
+use Rattle.process.specs.Process.{receiveTurn}
 
 -- a call with its own arguments, as the code takes them
 pub data HostRequest : Type 0 where

@@ -1,4 +1,5 @@
 -- Laws of the two calls that bring a packet.
 -- Assumes nothing.
 pub mod Entering
+pub mod Passed
 pub mod Refines

@@ -6,11 +6,11 @@ use mathlib.Core.Bool.{Bool, true, false, cond}
 use mathlib.Core.List.{List}
 use lib.ListN.{length}
 use Rattle.layout.specs.Limits.{messageLimit}
-use Rattle.layout.specs.LaidOut.{headerIn, laidOut}
+use Rattle.layout.specs.LaidOut.{laidOut}
 use Rattle.layout.specs.Decode.{taken, refused, decode, messageIn, within}
 use Rattle.step_definition.specs.Calls as A
 use Rattle.step_definition.specs.Questions.{asks}
-use Rattle.step_definition.specs.Step.{onMessage, onEntry, onPacket, own, stepOf, step}
+use Rattle.step_definition.specs.Step.{onPacket, own, stepOf, step}
 use Rattle.state.specs.declared.answers.Passed.the-variants.{Yes}
 use Rattle.state.specs.declared.fields.Coordinator.{Coordinator}
 use Rattle.state.specs.Counts.{isWithin}
@@ -18,25 +18,14 @@ use Rattle.state.specs.View.{view, coordinatorOf}
 use Rattle.state.specs.Turns.{asked, Refines}
 use Rattle.state.proofs.Shape.{Shaped}
 use Rattle.state.proofs.Refines.{on-asked, error-refines, callOf}
-use Rattle.process_timeout.proofs.Refines.{late-refines}
-use Rattle.messages.specs.Messages.{Incoming, messageTurn}
-use Rattle.messages.proofs.Refines.{message-refines}
-use Rattle.process.specs.declared.entries.Entry.{Entry}
-use Rattle.process.specs.declared.entries.Entry.the-variants.{Process, ProcessMessage}
-use Rattle.process.specs.Process.{processedTurn, entryTurn, decodedTurn, readTurn, askingPacket, receiveTurn, entryOf}
+use Rattle.entries.specs.declared.Entry.{Entry}
+use Rattle.entries.specs.Entries.{entryOf}
+use Rattle.entries.proofs.Refines.{entry-refines}
+use Rattle.process.specs.Process.{decodedTurn, readTurn, askingPacket, receiveTurn}
 use Rattle.process.proofs.Entering.{ready}
 
 module _ (clock : ℕ) (verdict : Bool) (p : List ℕ) (s : Coordinator) (store : List ℕ) (shaped : Shaped s)
     (bytes : length (s .message .bytes) ≡ messageLimit) (root : length (s .position .root) ≡ 32) where
-  module _ {room : ℕ} (b : s .commissioned ≡ true) (i : Incoming s store p (headerIn p) room) where
-    messaged : Refines (messageTurn clock verdict p s store) (onMessage clock verdict (messageIn p) (coordinatorOf s store))
-    messaged = message-refines clock p s store shaped bytes root b i verdict
-
-    entered : (entry : Entry) → Refines (entryTurn entry clock verdict p s store) (onEntry (entryOf entry) clock verdict (messageIn p) (coordinatorOf s store))
-    unfolding entryTurn processedTurn
-    entered Process = late-refines clock s store shaped b (i .within) (messageTurn clock verdict p s store) _ messaged
-    entered ProcessMessage = messaged
-
   packet-refines :
       (entry : Entry) (room : ℕ) → asked askingPacket (length store) room s ≡ Yes → s .commissioned ≡ true → isWithin s ≡ true
       → Refines (readTurn entry clock verdict p s store) (onPacket (entryOf entry) clock verdict (decode p) (coordinatorOf s store))
@@ -48,7 +37,7 @@ module _ (clock : ℕ) (verdict : Bool) (p : List ℕ) (s : Coordinator) (store 
           (onPacket (entryOf entry) clock verdict (cond l (cond x (taken (messageIn p)) (refused 9)) (refused 8)) (coordinatorOf s store))
       by true l true x =
           let r = ready s store room y in
-          entered b (record { within = w; stored = r .stored; laid-out = l; short = x; header = refl; wide = r .wide }) entry
+          entry-refines clock verdict p s store shaped bytes root b (record { within = w; stored = r .stored; laid-out = l; short = x; header = refl; wide = r .wide }) entry
       by true l false x = error-refines 9 s store (coordinatorOf s store) b w refl
       by false l x e = error-refines 8 s store (coordinatorOf s store) b w refl
 

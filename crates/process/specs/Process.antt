@@ -6,23 +6,13 @@ use mathlib.Core.List.{List}
 use lib.ListN.{length}
 use Rattle.layout.specs.Limits.{storeLength, answerLength}
 use Rattle.layout.specs.Decode.{Decoded, taken, refused, decode}
-use Rattle.step_definition.specs.Calls as A
 use Rattle.state.specs.declared.answers.Asks.{Asks}
 use Rattle.state.specs.declared.fields.Coordinator.{Coordinator}
 use Rattle.state.specs.Counts.{isWithin}
 use Rattle.state.specs.Turns.{Turn, errorTurn, asked, unless}
-use Rattle.process_timeout.specs.Due.{dueOf, dueTurn}
-use Rattle.messages.specs.Messages.{messageTurn}
-use Rattle.process.specs.declared.entries.Entry.{Entry}
-use Rattle.process.specs.declared.entries.Entry.the-variants.{Process, ProcessMessage}
-
--- "When it yields a packet, a result or an error, `process` drops the inbound packet."
-unfoldable pub processedTurn : ℕ → Bool → List ℕ → Coordinator → List ℕ → Turn
-processedTurn clock verdict p s store = dueTurn clock (dueOf clock s) s store (messageTurn clock verdict p s store)
-
-unfoldable pub entryTurn : Entry → ℕ → Bool → List ℕ → Coordinator → List ℕ → Turn
-entryTurn Process clock verdict p s store = processedTurn clock verdict p s store
-entryTurn ProcessMessage clock verdict p s store = messageTurn clock verdict p s store
+use Rattle.packet_in_hand.specs.InHand.{counted}
+use Rattle.entries.specs.declared.Entry.{Entry}
+use Rattle.entries.specs.Entries.{entryTurn}
 
 -- 8 and 9
 unfoldable pub decodedTurn : Decoded → Entry → ℕ → Bool → List ℕ → Coordinator → List ℕ → Turn
@@ -40,13 +30,12 @@ unfoldable pub receiveTurn : Entry → ℕ → Bool → List ℕ → ℕ → Coo
 receiveTurn entry clock verdict p room s store =
     unless (asked askingPacket (length store) room s) s store (readTurn entry clock verdict p s store)
 
+-- the reader's number for these bytes, 0 where it takes them
+abbrev pub refusalOf : List ℕ → ℕ
+refusalOf p = counted (decode p) .refusal
+
 -- what 4 and 7 have found
 pub record Ready (s : Coordinator) (store : List ℕ) (room : ℕ) : Type 0 where
   pub within : isWithin s ≡ true
   pub stored : storeLength ≤ length store
   pub wide : answerLength ≤ room
-
--- the definition's name of the call
-abbrev pub entryOf : Entry → A.Entry
-entryOf Process = A.process
-entryOf ProcessMessage = A.processMessage

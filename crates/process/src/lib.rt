@@ -1,3 +1,2 @@
 // `process` and `process_message`: the two calls that bring a packet.
-pub mod entries;
 pub mod packets;

@@ -1,5 +1,4 @@
 // A packet in the answer buffer, printed field by field as it is read back.
-use layout::Header;
 use layout::Ids;
 use script::print;
 
@@ -30,7 +29,8 @@ fn round(i: Ids) {
 }
 
 // What kinds 1, 3 and 32 begin with.
-fn request(name: &[u8], h: Header, s: &[u8]) {
+fn request(name: &[u8], s: &[u8]) {
+    let h = frame::header(s);
     print::text(name);
     round(h.ids);
     print::field(b", type ", h.signature_type as u64);
@@ -78,13 +78,13 @@ pub fn fields(s: &[u8]) {
     let h = frame::header(s);
     let kind = h.kind;
     match kind {
-        1 => request(b"nonce request", h, s),
+        1 => request(b"nonce request", s),
         3 => {
-            request(b"share request", h, s);
+            request(b"share request", s);
             each(kind, s, 2, h.pairs);
         }
         32 => {
-            request(b"job", h, s);
+            request(b"job", s);
             ids(b", keys", frame::part_at(s, 2));
             nonces(frame::part_at(s, 3));
             each(kind, s, 4, h.pairs);

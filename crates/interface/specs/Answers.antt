@@ -1,0 +1,53 @@
+-- An answer as plain numbers, and the answer that plain numbers and a buffer tell.
+use Prim.Native.Nat.{ℕ}
+use mathlib.Core.Bool.{cond}
+use mathlib.Core.List.{List, [], _∷_}
+use lib.Dec.{eqb}
+use lib.ListN.{take}
+use Rattle.step_definition.specs.Calls as A
+use Rattle.state.specs.declared.answers.Class.{Class}
+use Rattle.state.specs.declared.answers.Class.the-variants.{Nothing, Packet, Job, Result, Error}
+use Rattle.state.specs.declared.answers.Answer.{Answer}
+use Rattle.interface.specs.declared.answers.RcAnswer.{RcAnswer}
+
+abbrev pub classNumber : Class → ℕ
+classNumber Nothing = 0
+classNumber Packet = 1
+classNumber Job = 2
+classNumber Result = 3
+classNumber Error = 4
+
+unfoldable pub flat : Answer → RcAnswer
+flat a =
+    record {
+      class = classNumber (a .class);
+      number = a .number;
+      first = a .first;
+      second = a .second;
+      values = a .values;
+      mark = cond (a .mark) 1 0;
+      length = a .length;
+    }
+
+-- the class of a number; what no answer has counts as an error
+unfoldable pub classOf : ℕ → A.Class
+classOf n = cond (eqb n 0) A.nothing (cond (eqb n 1) A.packet (cond (eqb n 2) A.job (cond (eqb n 3) A.result A.error)))
+
+-- the number of a class
+abbrev pub numberOf : A.Class → ℕ
+numberOf A.nothing = 0
+numberOf A.packet = 1
+numberOf A.job = 2
+numberOf A.result = 3
+numberOf A.error = 4
+
+-- 01's answer, of the numbers and of the buffer after the call
+unfoldable pub told : RcAnswer → List ℕ → A.Answer
+told r out =
+    record {
+      class = classOf (r .class);
+      number = r .number;
+      values = take (r .values) (r .first ∷ (r .second ∷ []));
+      mark = eqb (r .mark) 1;
+      bytes = take (r .length) out;
+    }

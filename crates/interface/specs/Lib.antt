@@ -1,0 +1,4 @@
+-- What crosses to C.
+pub mod Answers
+pub mod Configs
+pub mod Called

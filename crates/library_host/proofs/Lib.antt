@@ -1,0 +1,7 @@
+-- Laws of the library's calls together.
+-- Assumes nothing.
+pub mod Unsaved
+pub mod Formed
+pub mod Calls
+pub mod Demands
+pub mod Contracts

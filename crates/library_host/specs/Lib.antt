@@ -1,0 +1,2 @@
+-- The library's calls, as a host makes them.
+pub mod Library

@@ -1,0 +1,3 @@
+-- Laws of reading arrays and of the bytes of a state.
+pub mod Each
+pub mod Copied

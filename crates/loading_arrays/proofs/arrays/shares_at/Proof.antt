@@ -1,0 +1,69 @@
+-- `shares_at`: the first i places hold the first i signers' shares.
+-- Assumes nothing.
+use Prim.Native.Nat.{_-_}
+use mathlib.Core.Path.{refl}
+use native.Mathlib.Omega.{arith}
+use borrow.Author.Needs.{needs}
+use Rattle.layout.specs.Limits.{signerLimit}
+use Rattle.state_bytes.specs.Places.{shareBytes}
+use Rattle.state_bytes.specs.Loaded.{sharesAt}
+use Rattle.loading_arrays.proofs.Each.{Filled, none-yet, one-more, all-of-it}
+use Rattle.loading_arrays.proofs.arrays.shares_at.Statement.{statement}
+use Rattle.loading_arrays.proofs.arrays.shares_at.Tie as tie
+
+abbrev Inv-loop : tie.InvT-loop
+Inv-loop s at slots₀ i₀ slots i = Filled sharesAt shareBytes s at signerLimit slots i
+
+abbrev μ-loop : tie.MeasureT-loop
+μ-loop s at slots₀ i₀ slots i = signerLimit - i
+
+share-slot-at-requires : tie.Need-share-slot-at-requires Inv-loop μ-loop
+share-slot-at-requires c κs = search needs
+
+loop-holds : tie.Need-loop-holds Inv-loop μ-loop
+loop-holds c = none-yet refl
+
+mul-share-slot-at : tie.Need-mul-share-slot-at Inv-loop μ-loop
+mul-share-slot-at c = omega arith
+
+add-share-slot-at : tie.Need-add-share-slot-at Inv-loop μ-loop
+add-share-slot-at c = omega arith
+
+share-slot-at-requires-2 : tie.Need-share-slot-at-requires-2 Inv-loop μ-loop
+share-slot-at-requires-2 c κs = search needs
+
+mul-slots : tie.Need-mul-slots Inv-loop μ-loop
+mul-slots c = omega arith
+
+array-set-from-slots : tie.Need-array-set-from-slots Inv-loop μ-loop
+array-set-from-slots c = omega arith
+
+add-i : tie.Need-add-i Inv-loop μ-loop
+add-i c = omega arith
+
+loop-less : tie.Need-loop-less Inv-loop μ-loop
+loop-less c = omega arith
+
+loop-again : tie.Need-loop-again Inv-loop μ-loop
+loop-again c = one-more (c .share-slot-at2 .result) (omega arith) (c .share-slot-at2 .ensures) (c .before .before .loop .inv)
+
+returns : tie.Need-returns Inv-loop μ-loop
+returns c = all-of-it (omega arith) (c .before .loop .inv)
+
+pub shares-at-spec : {M : Type 1} → statement M
+shares-at-spec =
+    tie.close
+    (tie.spec
+    Inv-loop
+    μ-loop
+    share-slot-at-requires
+    loop-holds
+    mul-share-slot-at
+    add-share-slot-at
+    share-slot-at-requires-2
+    mul-slots
+    array-set-from-slots
+    add-i
+    loop-less
+    loop-again
+    returns)

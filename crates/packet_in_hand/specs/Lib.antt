@@ -1,0 +1,2 @@
+-- A packet in hand.
+pub mod InHand

@@ -1,0 +1,2 @@
+-- A packet as plain numbers.
+pub mod Plain

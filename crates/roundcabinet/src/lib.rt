@@ -1,0 +1,199 @@
+// The signing phase as a library for a host in C or Rust: libroundcabinet.a, described by include/roundcabinet.h. The state crosses as
+// bytes in a buffer that the host lends, beside the store and the answer buffer. No call asks anything of its arguments.
+ghost use Prim.Native.Nat.{_+_, _≤_};
+ghost use mathlib.Core.Path.{_≡_};
+ghost use mathlib.Core.List.{[]};
+ghost use lib.Dec.{leb};
+ghost use lib.ListN.{length, take, drop};
+ghost use Rattle.layout.specs.Decode.{decode};
+ghost use Rattle.parts.specs.Parts.{partIn};
+ghost use Rattle.packet_in_hand.specs.InHand.{counted};
+ghost use Rattle.reading.specs.Plain.{packetOf, placeIn};
+ghost use Rattle.state_bytes.specs.Places.{stateLength};
+ghost use Rattle.interface.specs.Configs.{configOf, isYes};
+ghost use Rattle.interface.specs.Called.{Called};
+ghost use Rattle.commissioning.specs.Commissioned.{commissionedTurn};
+ghost use Rattle.calls.specs.Calls.{setKeyTurn, aggregatedTurn};
+ghost use Rattle.calls.specs.Resets.{resetTurn};
+ghost use Rattle.results.specs.Results.{resultsTurn};
+ghost use Rattle.state_bytes.specs.Loaded.{isSaved, loaded};
+ghost use Rattle.starting.specs.Given.{signIdGiven, startedTurn, movedTurn};
+ghost use Rattle.entries.specs.declared.Entry.the-variants.{Process, ProcessMessage};
+ghost use Rattle.process.specs.Process.{receiveTurn};
+ghost use Rattle.process_timeout.specs.ProcessTimeout.{processTimeoutTurn};
+ghost use Rattle.calls.specs.declared.held_keys.HeldKey.the-variants as Which;
+use interface::answers::RcAnswer;
+use interface::configs::RcConfig;
+use reading::RcPacket;
+use reading::RcPart;
+
+// A state buffer that is too short is refused with 4, and nothing is written.
+#[no_mangle]
+pub extern "C" fn rc_commission(state: &mut [u8], store: &mut [u8], config: RcConfig) -> RcAnswer
+    ensures { λ r. ⌜ Called (leb stateLength (length (now (state .entry))))
+        (commissionedTurn (configOf config) (length (now (state .entry))) (now (store .entry)))
+        (now (state .entry)) [] r (now (state .exit)) (now (store .exit)) [] ⌝ }
+{
+    commissioning::commission(state, store, config)
+}
+
+#[no_mangle]
+pub extern "C" fn rc_set_coordinator_key(state: &mut [u8], store: &[u8], held: u8) -> RcAnswer
+    ensures { λ r. ⌜ Called (isSaved (now (state .entry)))
+        (setKeyTurn Which.Coordinator (isYes held) (loaded (now (state .entry))) (now (store .entry)))
+        (now (state .entry)) [] r (now (state .exit)) (now (store .entry)) [] ⌝ }
+{
+    notices::set_coordinator_key(state, store, held)
+}
+
+#[no_mangle]
+pub extern "C" fn rc_set_group_key(state: &mut [u8], store: &[u8], held: u8) -> RcAnswer
+    ensures { λ r. ⌜ Called (isSaved (now (state .entry)))
+        (setKeyTurn Which.Aggregate (isYes held) (loaded (now (state .entry))) (now (store .entry)))
+        (now (state .entry)) [] r (now (state .exit)) (now (store .entry)) [] ⌝ }
+{
+    notices::set_group_key(state, store, held)
+}
+
+#[no_mangle]
+pub extern "C" fn rc_take_results(
+    state: &mut [u8],
+    store: &[u8],
+    dkg_id: u64,
+    ended: &[u32],
+) -> RcAnswer
+    ensures { λ r. ⌜ Called (isSaved (now (state .entry)))
+        (resultsTurn «dkg_id» (now (ended .entry)) (loaded (now (state .entry))) (now (store .entry)))
+        (now (state .entry)) [] r (now (state .exit)) (now (store .entry)) [] ⌝ }
+{
+    notices::take_results(state, store, dkg_id, ended)
+}
+
+// sign_id counts where sign_id_given is not 0; the root where the type is 3.
+#[no_mangle]
+pub extern "C" fn rc_start_signing_round(
+    state: &mut [u8],
+    store: &[u8],
+    out: &mut [u8],
+    clock: u64,
+    message: &[u8],
+    signature_type: u8,
+    root: &[u8],
+    sign_id_given: u8,
+    sign_id: u64,
+) -> RcAnswer
+    ensures { λ r. ⌜ Called (isSaved (now (state .entry)))
+        (startedTurn clock (now (message .entry)) «signature_type» (now (root .entry)) (signIdGiven «sign_id_given» «sign_id»)
+        (length (now (out .entry))) (loaded (now (state .entry))) (now (store .entry)))
+        (now (state .entry)) (now (out .entry)) r (now (state .exit)) (now (store .entry)) (now (out .exit)) ⌝ }
+{
+    starting::start_signing_round(
+        state,
+        store,
+        out,
+        clock,
+        message,
+        signature_type,
+        root,
+        sign_id_given,
+        sign_id,
+    )
+}
+
+#[no_mangle]
+pub extern "C" fn rc_process(
+    state: &mut [u8],
+    store: &mut [u8],
+    out: &mut [u8],
+    clock: u64,
+    verdict: u8,
+    packet: &[u8],
+) -> RcAnswer
+    ensures { λ r. ⌜ Called (isSaved (now (state .entry)))
+        (receiveTurn Process clock (isYes verdict) (now (packet .entry)) (length (now (out .entry)))
+        (loaded (now (state .entry))) (now (store .entry)))
+        (now (state .entry)) (now (out .entry)) r (now (state .exit)) (now (store .exit)) (now (out .exit)) ⌝ }
+{
+    receiving::process(state, store, out, clock, verdict, packet)
+}
+
+#[no_mangle]
+pub extern "C" fn rc_process_message(
+    state: &mut [u8],
+    store: &mut [u8],
+    out: &mut [u8],
+    clock: u64,
+    verdict: u8,
+    packet: &[u8],
+) -> RcAnswer
+    ensures { λ r. ⌜ Called (isSaved (now (state .entry)))
+        (receiveTurn ProcessMessage clock (isYes verdict) (now (packet .entry)) (length (now (out .entry)))
+        (loaded (now (state .entry))) (now (store .entry)))
+        (now (state .entry)) (now (out .entry)) r (now (state .exit)) (now (store .exit)) (now (out .exit)) ⌝ }
+{
+    receiving::process_message(state, store, out, clock, verdict, packet)
+}
+
+#[no_mangle]
+pub extern "C" fn rc_process_timeout(
+    state: &mut [u8],
+    store: &[u8],
+    out: &mut [u8],
+    clock: u64,
+) -> RcAnswer
+    ensures { λ r. ⌜ Called (isSaved (now (state .entry)))
+        (processTimeoutTurn clock (length (now (out .entry))) (loaded (now (state .entry))) (now (store .entry)))
+        (now (state .entry)) (now (out .entry)) r (now (state .exit)) (now (store .entry)) (now (out .exit)) ⌝ }
+{
+    receiving::process_timeout(state, store, out, clock)
+}
+
+#[no_mangle]
+pub extern "C" fn rc_aggregated(state: &mut [u8], store: &[u8], ok: u8) -> RcAnswer
+    ensures { λ r. ⌜ Called (isSaved (now (state .entry)))
+        (aggregatedTurn (isYes ok) (loaded (now (state .entry))) (now (store .entry)))
+        (now (state .entry)) [] r (now (state .exit)) (now (store .entry)) [] ⌝ }
+{
+    notices::aggregated(state, store, ok)
+}
+
+#[no_mangle]
+pub extern "C" fn rc_reset(state: &mut [u8], store: &[u8]) -> RcAnswer
+    ensures { λ r. ⌜ Called (isSaved (now (state .entry))) (resetTurn (loaded (now (state .entry))) (now (store .entry)))
+        (now (state .entry)) [] r (now (state .exit)) (now (store .entry)) [] ⌝ }
+{
+    notices::reset(state, store)
+}
+
+#[no_mangle]
+pub extern "C" fn rc_can_move_to(
+    state: &mut [u8],
+    store: &[u8],
+    next: u8,
+    signature_type: u8,
+    root: &[u8],
+) -> RcAnswer
+    ensures { λ r. ⌜ Called (isSaved (now (state .entry)))
+        (movedTurn next «signature_type» (now (root .entry)) (loaded (now (state .entry))) (now (store .entry)))
+        (now (state .entry)) [] r (now (state .exit)) (now (store .entry)) [] ⌝ }
+{
+    starting::can_move_to(state, store, next, signature_type, root)
+}
+
+#[no_mangle]
+pub extern "C" fn rc_read_packet(packet: &[u8]) -> RcPacket
+    ensures { λ r. ⌜ r ≡ packetOf (decode (now (packet .entry))) ⌝ }
+{
+    reading::read_packet(packet)
+}
+
+// A part lies inside its packet, whatever the bytes.
+#[no_mangle]
+pub extern "C" fn rc_packet_part(packet: &[u8], i: u16) -> RcPart
+    ensures { λ r. ⌜ (r ≡ placeIn (now (packet .entry)) (counted (decode (now (packet .entry))) .pairs) i)
+        × (take (r .length) (drop (r .at) (now (packet .entry)))
+        ≡ partIn (now (packet .entry)) (counted (decode (now (packet .entry))) .pairs) i)
+        × (r .at + r .length ≤ length (now (packet .entry))) ⌝ }
+{
+    reading::packet_part(packet, i)
+}

@@ -1,0 +1,113 @@
+-- `put_config`: five numbers, the timeouts, the signers, their count and a flag.
+-- Assumes nothing.
+use Rattle.saving.proofs.states.put_config.Statement.{statement}
+use Rattle.saving.proofs.states.put_config.Tie as tie
+use native.Mathlib.Omega.{arith}
+use borrow.Author.Needs.{needs}
+use Rattle.state_bytes.specs.Saved.{savedConfig}
+use Rattle.wire.proofs.Numbers.{length-le}
+use Rattle.state_bytes.proofs.Back.{length-timeouts}
+use Rattle.saving_fields.proofs.Writing.{then, last, written, as-long}
+use Rattle.saving_arrays.proofs.Sizes.{signers-long}
+
+cast-put-number : tie.Need-cast-put-number
+cast-put-number c = search needs
+
+put-number-requires : tie.Need-put-number-requires
+put-number-requires c κs = search needs
+
+add-put-number : tie.Need-add-put-number
+add-put-number c = search needs
+
+cast-put-number-2 : tie.Need-cast-put-number-2
+cast-put-number-2 c = search needs
+
+put-number-requires-2 : tie.Need-put-number-requires-2
+put-number-requires-2 c κs = search needs
+
+add-put-number-2 : tie.Need-add-put-number-2
+add-put-number-2 c = search needs
+
+cast-put-number-3 : tie.Need-cast-put-number-3
+cast-put-number-3 c = search needs
+
+put-number-requires-3 : tie.Need-put-number-requires-3
+put-number-requires-3 c κs = search needs
+
+add-put-number-3 : tie.Need-add-put-number-3
+add-put-number-3 c = search needs
+
+cast-put-number-4 : tie.Need-cast-put-number-4
+cast-put-number-4 c = search needs
+
+put-number-requires-4 : tie.Need-put-number-requires-4
+put-number-requires-4 c κs = search needs
+
+add-put-number-4 : tie.Need-add-put-number-4
+add-put-number-4 c = omega (arith, c .before .before .before .before .before .before .before .before .before .before .before .before .before .before .before .before .before .before .before .before .before .before .before .before .pre)
+
+cast-put-number-5 : tie.Need-cast-put-number-5
+cast-put-number-5 c = search needs
+
+put-number-requires-5 : tie.Need-put-number-requires-5
+put-number-requires-5 c κs = search needs
+
+add-put-timeouts : tie.Need-add-put-timeouts
+add-put-timeouts c = omega (arith, c .before .before .before .before .before .before .before .before .before .before .before .before .before .before .before .before .before .before .before .before .before .before .before .before .before .before .before .before .before .pre)
+
+put-timeouts-requires : tie.Need-put-timeouts-requires
+put-timeouts-requires c κs = omega (arith, c .before .before .before .before .before .before .before .before .before .before .before .before .before .before .before .before .before .before .before .before .before .before .before .before .before .before .before .before .before .pre)
+
+add-put-signers : tie.Need-add-put-signers
+add-put-signers c = omega (arith, c .before .before .before .before .before .before .before .before .before .before .before .before .before .before .before .before .before .before .before .before .before .before .before .before .before .before .before .before .before .before .before .before .before .pre)
+
+put-signers-requires : tie.Need-put-signers-requires
+put-signers-requires c κs = omega (arith, c .before .before .before .before .before .before .before .before .before .before .before .before .before .before .before .before .before .before .before .before .before .before .before .before .before .before .before .before .before .before .before .before .before .pre)
+
+add-put-number-5 : tie.Need-add-put-number-5
+add-put-number-5 c = omega (arith, c .before .before .before .before .before .before .before .before .before .before .before .before .before .before .before .before .before .before .before .before .before .before .before .before .before .before .before .before .before .before .before .before .before .before .before .before .before .pre)
+
+put-number-requires-6 : tie.Need-put-number-requires-6
+put-number-requires-6 c κs = search needs
+
+add-put-flag : tie.Need-add-put-flag
+add-put-flag c = omega (arith, c .before .before .before .before .before .before .before .before .before .before .before .before .before .before .before .before .before .before .before .before .before .before .before .before .before .before .before .before .before .before .before .before .before .before .before .before .before .before .before .before .before .pre)
+
+put-flag-requires : tie.Need-put-flag-requires
+put-flag-requires c κs = search needs
+
+returns : tie.Need-returns
+unfolding savedConfig
+returns c = written (then (length-le 4 _) (omega arith) (c .before .before .before .before .before .before .before .before .before .before .before .before .before .before .before .before .before .before .before .before .before .before .before .before .before .before .before .before .before .before .before .before .before .before .before .before .before .before .put-number .ensures) (then (length-le 4 _) (omega arith) (c .before .before .before .before .before .before .before .before .before .before .before .before .before .before .before .before .before .before .before .before .before .before .before .before .before .before .before .before .before .before .before .before .before .put-number2 .ensures) (then (length-le 4 _) (omega arith) (c .before .before .before .before .before .before .before .before .before .before .before .before .before .before .before .before .before .before .before .before .before .before .before .before .before .before .before .before .put-number3 .ensures) (then (length-le 4 _) (omega arith) (c .before .before .before .before .before .before .before .before .before .before .before .before .before .before .before .before .before .before .before .before .before .before .before .put-number4 .ensures) (then (length-le 4 _) (omega arith) (c .before .before .before .before .before .before .before .before .before .before .before .before .before .before .before .before .before .before .put-number5 .ensures) (then (length-timeouts _) (omega arith) (c .before .before .before .before .before .before .before .before .before .before .before .before .before .before .put-timeouts .ensures) (then (signers-long (c .before .before .before .before .before .before .before .before .before .before .before .before .before .before .before .before .before .before .before .before .before .before .before .before .before .before .before .before .before .before .before .before .before .before .before .before .before .before .before .before .before .before .before .before .args .g) _ (c .before .before .before .before .before .before .before .before .before .before .before .before .before .before .before .before .before .before .before .before .before .before .before .before .before .before .before .before .before .before .before .before .before .before .before .before .before .before .before .before .before .before .before .before .good .1 .1 .0)) (omega arith) (c .before .before .before .before .before .before .before .before .before .before .put-signers .ensures) (then (length-le 8 _) (omega arith) (c .before .before .before .before .before .before .put-number6 .ensures) (last (c .before .before .put-flag .ensures))))))))))
+
+same-length : tie.Need-same-length
+same-length c = as-long _ _ _ _ (returns c)
+
+pub put-config-spec : {M : Type 1} → statement M
+put-config-spec =
+    tie.close
+    (tie.spec
+    cast-put-number
+    put-number-requires
+    add-put-number
+    cast-put-number-2
+    put-number-requires-2
+    add-put-number-2
+    cast-put-number-3
+    put-number-requires-3
+    add-put-number-3
+    cast-put-number-4
+    put-number-requires-4
+    add-put-number-4
+    cast-put-number-5
+    put-number-requires-5
+    add-put-timeouts
+    put-timeouts-requires
+    add-put-signers
+    put-signers-requires
+    add-put-number-5
+    put-number-requires-6
+    add-put-flag
+    put-flag-requires
+    same-length
+    returns)

@@ -1,0 +1,69 @@
+-- `put_position`: the numbers of state and type, each below 256, then the root.
+-- Assumes nothing.
+use Rattle.saving.proofs.states.put_position.Statement.{statement}
+use Rattle.saving.proofs.states.put_position.Tie as tie
+use mathlib.Core.Path.{refl, ap, _∙_}
+use native.Mathlib.Omega.{arith}
+use borrow.Author.Needs.{needs}
+use Rattle.state_bytes.specs.Saved.{savedType, savedPosition}
+use Rattle.state_table.proofs.Table.{state-below}
+use Rattle.saving_fields.proofs.Writing.{then, last, written, one-byte}
+
+state-number-requires : tie.Need-state-number-requires
+state-number-requires c κs = search needs
+
+type-in-requires : tie.Need-type-in-requires
+type-in-requires c κs = search needs
+
+type-byte-requires : tie.Need-type-byte-requires
+type-byte-requires c κs = search needs
+
+put-number-requires : tie.Need-put-number-requires
+put-number-requires c κs = search needs
+
+add-put-number : tie.Need-add-put-number
+add-put-number c = search needs
+
+cast-put-number : tie.Need-cast-put-number
+cast-put-number c = search needs
+
+put-number-requires-2 : tie.Need-put-number-requires-2
+put-number-requires-2 c κs = search needs
+
+add-copy : tie.Need-add-copy
+add-copy c = search needs
+
+slice-aggregate-copy : tie.Need-slice-aggregate-copy
+slice-aggregate-copy c = search needs
+
+copy-requires : tie.Need-copy-requires
+copy-requires c κs = search needs
+
+same-length : tie.Need-same-length
+same-length c = search needs
+
+returns : tie.Need-returns
+unfolding savedPosition
+returns c = let state = c .before .before .before .before .before .before .before .before .before .before .before .before .before .before .before .state-number in
+    let k = c .before .before .before .before .before .before .before .before .before .before .before .before .before .type-byte in
+    written
+    (then refl (omega arith) (one-byte _ _ (state .result) _ (omega (arith, state .ensures, state-below (c .before .before .before .before .before .before .before .before .before .before .before .before .before .before .before .before .before .before .args .p .state))) (state .ensures) (c .before .before .before .before .before .before .before .before .before .before .before .put-number .ensures))
+    (then refl (omega arith) (one-byte _ _ (k .result) _ (omega arith) (k .ensures ∙ ap savedType (c .before .before .before .before .before .before .before .before .before .before .before .before .before .before .type-in .ensures)) (c .before .before .before .before .before .before .before .put-number2 .ensures))
+    (last (c .before .before .copy .ensures))))
+
+pub put-position-spec : {M : Type 1} → statement M
+put-position-spec =
+    tie.close
+    (tie.spec
+    state-number-requires
+    type-in-requires
+    type-byte-requires
+    put-number-requires
+    add-put-number
+    cast-put-number
+    put-number-requires-2
+    add-copy
+    slice-aggregate-copy
+    copy-requires
+    same-length
+    returns)

@@ -1,0 +1,2 @@
+-- How many bytes arrays take.
+pub mod Sizes

@@ -1,0 +1,66 @@
+-- `put_flags`: the first i flags are written.
+-- Assumes nothing.
+use Rattle.saving_arrays.proofs.arrays.put_flags.Statement.{statement}
+use Rattle.saving_arrays.proofs.arrays.put_flags.Tie as tie
+use Prim.Native.Nat.{_≤_, _-_}
+use mathlib.Core.Path.{_≡_, refl}
+use native.Mathlib.Omega.{arith}
+use lib.ListN.{take}
+use borrow.Author.Needs.{needs}
+use Rattle.wire.specs.Bytes.{put}
+use Rattle.state_bytes.specs.Saved.{savedEach, savedFlag}
+use Rattle.saving_fields.proofs.Writing.{as-long, all-of, each-next, each-done}
+
+abbrev Inv-loop : tie.InvT-loop
+Inv-loop out₀ at flags i₀ out i = (i ≤ 10) × (out ≡ put out₀ at (savedEach savedFlag (take i flags)))
+
+abbrev μ-loop : tie.MeasureT-loop
+μ-loop out₀ at flags i₀ out i = 10 - i
+
+loop-holds : tie.Need-loop-holds Inv-loop μ-loop
+unfolding savedEach put
+loop-holds c = (omega arith, refl)
+
+add-put-flag : tie.Need-add-put-flag Inv-loop μ-loop
+add-put-flag c = search needs
+
+array-read-put-flag : tie.Need-array-read-put-flag Inv-loop μ-loop
+array-read-put-flag c = search needs
+
+put-flag-requires : tie.Need-put-flag-requires Inv-loop μ-loop
+put-flag-requires c κs = search needs
+
+add-i : tie.Need-add-i Inv-loop μ-loop
+add-i c = search needs
+
+loop-less : tie.Need-loop-less Inv-loop μ-loop
+loop-less c = search needs
+
+loop-again : tie.Need-loop-again Inv-loop μ-loop
+loop-again c = let l = c .before .before .before .before .before .loop in
+    let start = c .before .before .before .before .before .before .before in
+    let xs = start .args .t3 in
+    let good = start .good .1 .1 .0 .1 in
+    (omega arith, each-next savedFlag 1 _ _ _ _ xs (l .i) 10 (all-of (λ x. refl) xs) (good .0 .1) (c .before .before .before .before .loop-test .taken) (omega arith) (l .inv .1) (c .before .before .put-flag .ensures))
+
+same-length : tie.Need-same-length Inv-loop μ-loop
+same-length c = as-long _ _ _ _ (c .before .loop .inv .1)
+
+returns : tie.Need-returns Inv-loop μ-loop
+returns c = let l = c .before .loop in let start = c .before .before .before in each-done savedFlag 1 _ _ (start .args .t3) (l .i) 10 (start .good .1 .1 .0 .1 .0 .1) (c .loop-test .left) (l .inv .1)
+
+pub put-flags-spec : {M : Type 1} → statement M
+put-flags-spec =
+    tie.close
+    (tie.spec
+    Inv-loop
+    μ-loop
+    loop-holds
+    add-put-flag
+    array-read-put-flag
+    put-flag-requires
+    add-i
+    loop-less
+    loop-again
+    same-length
+    returns)

@@ -1,0 +1,29 @@
+-- `put_records`: four records, then their count.
+-- Assumes nothing.
+use Rattle.saving_arrays.proofs.arrays.put_records.Statement.{statement}
+use Rattle.saving_arrays.proofs.arrays.put_records.Tie as tie
+use native.Mathlib.Omega.{arith}
+use borrow.Author.Needs.{needs}
+use Rattle.state_bytes.specs.Saved.{savedRecords}
+use Rattle.saving_fields.proofs.Writing.{then, last, written}
+use Rattle.saving_arrays.proofs.Sizes.{rows-long}
+
+put-rows-requires : tie.Need-put-rows-requires
+put-rows-requires c κs = search needs
+
+add-put-number : tie.Need-add-put-number
+add-put-number c = search needs
+
+put-number-requires : tie.Need-put-number-requires
+put-number-requires c κs = search needs
+
+same-length : tie.Need-same-length
+same-length c = search needs
+
+returns : tie.Need-returns
+unfolding savedRecords
+returns c = written (then (rows-long (c .before .before .before .before .before .before .before .before .before .before .args .r) _ (c .before .before .before .before .before .before .before .before .before .before .good .1 .1 .0)) (omega arith) (c .before .before .before .before .before .before .put-rows .ensures) (last (c .before .before .put-number .ensures)))
+
+pub put-records-spec : {M : Type 1} → statement M
+put-records-spec =
+    tie.close (tie.spec put-rows-requires add-put-number put-number-requires same-length returns)

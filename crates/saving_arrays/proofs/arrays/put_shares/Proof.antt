@@ -1,0 +1,78 @@
+-- `put_shares`: the first i signers' shares are written.
+-- Assumes nothing.
+use Rattle.saving_arrays.proofs.arrays.put_shares.Statement.{statement}
+use Rattle.saving_arrays.proofs.arrays.put_shares.Tie as tie
+use Prim.Native.Nat.{_≤_, _-_}
+use mathlib.Core.Path.{_≡_, refl}
+use native.Mathlib.Omega.{arith}
+use lib.ListN.{take}
+use borrow.Author.Needs.{needs}
+use Rattle.wire.specs.Bytes.{put}
+use Rattle.state_bytes.specs.Saved.{savedEach, savedShares}
+use Rattle.state.proofs.fields.ShareSlot as ShareSlot-row
+use Rattle.state_bytes.proofs.Back.{length-shares}
+use Rattle.state_bytes.proofs.AllSaves.{shares-fit}
+use Rattle.saving_fields.proofs.Writing.{as-long, each-next, each-done}
+use Rattle.saving_arrays.proofs.Sizes.{array-given}
+
+abbrev Inv-loop : tie.InvT-loop
+Inv-loop out₀ at slots i₀ out i = (i ≤ 10) × (out ≡ put out₀ at (savedEach savedShares (take i slots)))
+
+abbrev μ-loop : tie.MeasureT-loop
+μ-loop out₀ at slots i₀ out i = 10 - i
+
+loop-holds : tie.Need-loop-holds Inv-loop μ-loop
+unfolding savedEach put
+loop-holds c = (omega arith, refl)
+
+mul-slot : tie.Need-mul-slot Inv-loop μ-loop
+mul-slot c = search needs
+
+array-copy-out-slot : tie.Need-array-copy-out-slot Inv-loop μ-loop
+array-copy-out-slot c = search needs
+
+mul-put-share-slot : tie.Need-mul-put-share-slot Inv-loop μ-loop
+mul-put-share-slot c = search needs
+
+add-put-share-slot : tie.Need-add-put-share-slot Inv-loop μ-loop
+add-put-share-slot c = search needs
+
+put-share-slot-requires : tie.Need-put-share-slot-requires Inv-loop μ-loop
+put-share-slot-requires c κs = search needs
+
+add-i : tie.Need-add-i Inv-loop μ-loop
+add-i c = search needs
+
+loop-less : tie.Need-loop-less Inv-loop μ-loop
+loop-less c = search needs
+
+loop-again : tie.Need-loop-again Inv-loop μ-loop
+loop-again c = let l = c .before .before .before .before .before .before .loop in
+    let start = c .before .before .before .before .before .before .before .before in
+    let xs = start .args .t3 in
+    let good = start .good .1 .1 .0 .1 in
+    (omega arith, each-next savedShares 25 _ _ _ _ xs (l .i) 10 (array-given (ShareSlot-row.the-row .own) (λ x vs g. length-shares x (shares-fit x vs g)) xs _ (good .1)) (good .0 .1) (c .before .before .before .before .before .loop-test .taken) (omega arith) (l .inv .1) (c .before .before .put-share-slot .ensures))
+
+same-length : tie.Need-same-length Inv-loop μ-loop
+same-length c = as-long _ _ _ _ (c .before .loop .inv .1)
+
+returns : tie.Need-returns Inv-loop μ-loop
+returns c = let l = c .before .loop in let start = c .before .before .before in each-done savedShares 25 _ _ (start .args .t3) (l .i) 10 (start .good .1 .1 .0 .1 .0 .1) (c .loop-test .left) (l .inv .1)
+
+pub put-shares-spec : {M : Type 1} → statement M
+put-shares-spec =
+    tie.close
+    (tie.spec
+    Inv-loop
+    μ-loop
+    loop-holds
+    mul-slot
+    array-copy-out-slot
+    mul-put-share-slot
+    add-put-share-slot
+    put-share-slot-requires
+    add-i
+    loop-less
+    loop-again
+    same-length
+    returns)

@@ -1,0 +1,57 @@
+-- `put_signer`: id, flag, key ids and their count.
+-- Assumes nothing.
+use Rattle.saving_arrays.proofs.arrays.put_signer.Statement.{statement}
+use Rattle.saving_arrays.proofs.arrays.put_signer.Tie as tie
+use mathlib.Core.Path.{refl}
+use native.Mathlib.Omega.{arith}
+use borrow.Author.Needs.{needs}
+use Rattle.wire.proofs.Numbers.{length-le}
+use Rattle.state_bytes.specs.Saved.{savedSigner}
+use Rattle.saving_fields.proofs.Writing.{then, last, written}
+use Rattle.saving_arrays.proofs.Sizes.{key-ids-long}
+
+cast-put-number : tie.Need-cast-put-number
+cast-put-number c = search needs
+
+put-number-requires : tie.Need-put-number-requires
+put-number-requires c κs = search needs
+
+add-put-flag : tie.Need-add-put-flag
+add-put-flag c = search needs
+
+put-flag-requires : tie.Need-put-flag-requires
+put-flag-requires c κs = search needs
+
+add-put-key-ids : tie.Need-add-put-key-ids
+add-put-key-ids c = search needs
+
+put-key-ids-requires : tie.Need-put-key-ids-requires
+put-key-ids-requires c κs = search needs
+
+add-put-number : tie.Need-add-put-number
+add-put-number c = search needs
+
+put-number-requires-2 : tie.Need-put-number-requires-2
+put-number-requires-2 c κs = search needs
+
+same-length : tie.Need-same-length
+same-length c = search needs
+
+returns : tie.Need-returns
+unfolding savedSigner
+returns c = written (then (length-le 4 _) (omega arith) (c .before .before .before .before .before .before .before .before .before .before .before .before .before .before .put-number .ensures) (then refl (omega arith) (c .before .before .before .before .before .before .before .before .before .before .put-flag .ensures) (then (key-ids-long (c .before .before .before .before .before .before .before .before .before .before .before .before .before .before .before .before .before .before .before .before .before .args .e) _ (c .before .before .before .before .before .before .before .before .before .before .before .before .before .before .before .before .before .before .before .before .before .good .1 .1 .0)) (omega arith) (c .before .before .before .before .before .before .put-key-ids .ensures) (last (c .before .before .put-number2 .ensures)))))
+
+pub put-signer-spec : {M : Type 1} → statement M
+put-signer-spec =
+    tie.close
+    (tie.spec
+    cast-put-number
+    put-number-requires
+    add-put-flag
+    put-flag-requires
+    add-put-key-ids
+    put-key-ids-requires
+    add-put-number
+    put-number-requires-2
+    same-length
+    returns)

@@ -1,0 +1,2 @@
+-- Pieces and elements written one after the other.
+pub mod Writing

@@ -1,0 +1,30 @@
+-- `put_clocks`: two readings.
+-- Assumes nothing.
+use Rattle.saving_fields.proofs.fields.put_clocks.Statement.{statement}
+use Rattle.saving_fields.proofs.fields.put_clocks.Tie as tie
+use native.Mathlib.Omega.{arith}
+use borrow.Author.Needs.{needs}
+use Rattle.state_bytes.specs.Saved.{savedClocks}
+use Rattle.state_bytes.proofs.Back.{length-reading}
+use Rattle.saving_fields.proofs.Writing.{then, last, written}
+
+put-reading-requires : tie.Need-put-reading-requires
+put-reading-requires c κs = search needs
+
+add-put-reading : tie.Need-add-put-reading
+add-put-reading c = search needs
+
+put-reading-requires-2 : tie.Need-put-reading-requires-2
+put-reading-requires-2 c κs = search needs
+
+same-length : tie.Need-same-length
+same-length c = search needs
+
+returns : tie.Need-returns
+unfolding savedClocks
+returns c = written (then (length-reading _) (omega arith) (c .before .before .before .before .before .before .put-reading .ensures) (last (c .before .before .put-reading2 .ensures)))
+
+pub put-clocks-spec : {M : Type 1} → statement M
+put-clocks-spec =
+    tie.close
+    (tie.spec put-reading-requires add-put-reading put-reading-requires-2 same-length returns)

@@ -1,0 +1,43 @@
+-- `put_ids`: three numbers of eight bytes.
+-- Assumes nothing.
+use Rattle.saving_fields.proofs.fields.put_ids.Statement.{statement}
+use Rattle.saving_fields.proofs.fields.put_ids.Tie as tie
+use native.Mathlib.Omega.{arith}
+use borrow.Author.Needs.{needs}
+use Rattle.wire.proofs.Numbers.{length-le}
+use Rattle.state_bytes.specs.Saved.{savedIds}
+use Rattle.saving_fields.proofs.Writing.{then, last, written}
+
+put-number-requires : tie.Need-put-number-requires
+put-number-requires c κs = search needs
+
+add-put-number : tie.Need-add-put-number
+add-put-number c = search needs
+
+put-number-requires-2 : tie.Need-put-number-requires-2
+put-number-requires-2 c κs = search needs
+
+add-put-number-2 : tie.Need-add-put-number-2
+add-put-number-2 c = search needs
+
+put-number-requires-3 : tie.Need-put-number-requires-3
+put-number-requires-3 c κs = search needs
+
+same-length : tie.Need-same-length
+same-length c = search needs
+
+returns : tie.Need-returns
+unfolding savedIds
+returns c = written (then (length-le 8 _) (omega arith) (c .before .before .before .before .before .before .before .before .before .before .put-number .ensures) (then (length-le 8 _) (omega arith) (c .before .before .before .before .before .before .put-number2 .ensures) (last (c .before .before .put-number3 .ensures))))
+
+pub put-ids-spec : {M : Type 1} → statement M
+put-ids-spec =
+    tie.close
+    (tie.spec
+    put-number-requires
+    add-put-number
+    put-number-requires-2
+    add-put-number-2
+    put-number-requires-3
+    same-length
+    returns)

@@ -1,0 +1,59 @@
+-- `put_timeouts`: five readings.
+-- Assumes nothing.
+use Rattle.saving_fields.proofs.fields.put_timeouts.Statement.{statement}
+use Rattle.saving_fields.proofs.fields.put_timeouts.Tie as tie
+use native.Mathlib.Omega.{arith}
+use borrow.Author.Needs.{needs}
+use Rattle.state_bytes.specs.Saved.{savedTimeouts}
+use Rattle.state_bytes.proofs.Back.{length-reading}
+use Rattle.saving_fields.proofs.Writing.{then, last, written}
+
+put-reading-requires : tie.Need-put-reading-requires
+put-reading-requires c κs = search needs
+
+add-put-reading : tie.Need-add-put-reading
+add-put-reading c = search needs
+
+put-reading-requires-2 : tie.Need-put-reading-requires-2
+put-reading-requires-2 c κs = search needs
+
+add-put-reading-2 : tie.Need-add-put-reading-2
+add-put-reading-2 c = search needs
+
+put-reading-requires-3 : tie.Need-put-reading-requires-3
+put-reading-requires-3 c κs = search needs
+
+add-put-reading-3 : tie.Need-add-put-reading-3
+add-put-reading-3 c = search needs
+
+put-reading-requires-4 : tie.Need-put-reading-requires-4
+put-reading-requires-4 c κs = search needs
+
+add-put-reading-4 : tie.Need-add-put-reading-4
+add-put-reading-4 c = search needs
+
+put-reading-requires-5 : tie.Need-put-reading-requires-5
+put-reading-requires-5 c κs = search needs
+
+same-length : tie.Need-same-length
+same-length c = search needs
+
+returns : tie.Need-returns
+unfolding savedTimeouts
+returns c = written (then (length-reading _) (omega arith) (c .before .before .before .before .before .before .before .before .before .before .before .before .before .before .before .before .before .before .put-reading .ensures) (then (length-reading _) (omega arith) (c .before .before .before .before .before .before .before .before .before .before .before .before .before .before .put-reading2 .ensures) (then (length-reading _) (omega arith) (c .before .before .before .before .before .before .before .before .before .before .put-reading3 .ensures) (then (length-reading _) (omega arith) (c .before .before .before .before .before .before .put-reading4 .ensures) (last (c .before .before .put-reading5 .ensures))))))
+
+pub put-timeouts-spec : {M : Type 1} → statement M
+put-timeouts-spec =
+    tie.close
+    (tie.spec
+    put-reading-requires
+    add-put-reading
+    put-reading-requires-2
+    add-put-reading-2
+    put-reading-requires-3
+    add-put-reading-3
+    put-reading-requires-4
+    add-put-reading-4
+    put-reading-requires-5
+    same-length
+    returns)

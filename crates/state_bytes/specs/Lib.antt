@@ -1,0 +1,5 @@
+-- The coordinator's state as bytes.
+pub mod Places
+pub mod Saved
+pub mod Fits
+pub mod Loaded
