@@ -10,8 +10,7 @@
  *
  * What is proved of every call, for any bytes and any lengths whatever: it returns, reads and writes nothing outside the buffers, and gives exactly the
  * answer, state, store and answer buffer (bytes past the written length included) that the definitions say. A refusal writes nothing to out and changes
- * only what is said below. Not in the promise, though the code does it: that first and second are 0 where values does not count them, that values is at
- * most 2, and length where out is empty.
+ * only what is said below. The answer's numbers are all in the promise: first and second are 0 where values does not count them.
  *
  * What the host vouches for, because nothing here can see it:
  *   - pointers are not null and the lengths beside them are true, the buffers of one call do not overlap, and one caller at a time uses them;
@@ -156,23 +155,26 @@ rc_answer rc_take_results(uint8_t *state, size_t state_length, const uint8_t *st
  * 32 bytes, which count where the type is RC_TAPROOT_ROOT. Asked 4, 5, 7, 9, 10, 11; a type above 3 is refused with 8 before.
  *
  * WARNING. A start that is refused with 11 has already replaced message and sign id, as fire.rs does it. While shares are gathered, a start of
- * another type makes signers that answer in time look silent: their shares get 17, and the share timeout strikes them. Ask rc_can_move_to first. */
+ * another type makes signers that answer in time look silent: their shares get 17, and the share timeout strikes them. A start of the same type (and
+ * root) is taken there, and takes the place of the round in hand. Ask rc_can_move_to first: with 1 it says yes in Idle and, while signing, nowhere else. */
 rc_answer rc_start_signing_round(uint8_t *state, size_t state_length, const uint8_t *store, size_t store_length, uint8_t *out, size_t out_length,
                                  uint64_t clock, const uint8_t *message, size_t message_length, uint8_t signature_type, const uint8_t *root,
                                  size_t root_length, uint8_t sign_id_given, uint64_t sign_id);
 
-/* A packet has come. verdict: not 0 where its seal is good. rc_process tests the timeout first, as rc_process_timeout does; where that yields
- * anything, the packet is dropped. rc_process_message does not. A packet that is refused with 8 or 9 is refused before any timeout. Asked 4, 5, 7, 8, 9,
- * then 12, then 13 and 14, then by the state: 10, 15; 16 to 19, 10; 16, 17, 20 to 22. Answers RC_NOTHING; RC_PACKET, a share request or, in Idle, a nonce
- * request; RC_JOB; and what rc_process_timeout answers. */
+/* A packet has come. verdict: not 0 where its seal is good. Two things that fire.rs does not look at are the host's: a share's iteration (a share from
+ * before a retry, heard late, is recorded), and whether a nonce request that comes in Idle is one of the coordinator's own, played back (it starts that
+ * round). rc_process tests the timeout first, as rc_process_timeout does; where that yields anything, the packet is dropped. rc_process_message does
+ * not. A packet that is refused with 8 or 9 is refused before any timeout. Asked 4, 5, 7, 8, 9, then 12, then 13 and 14, then by the state: 10, 15; 16
+ * to 19, 10; 16, 17, 20 to 22. Answers RC_NOTHING; RC_PACKET, a share request or, in Idle, a nonce request; RC_JOB; and what rc_process_timeout answers. */
 rc_answer rc_process(uint8_t *state, size_t state_length, uint8_t *store, size_t store_length, uint8_t *out, size_t out_length, uint64_t clock,
                      uint8_t verdict, const uint8_t *packet, size_t packet_length);
 rc_answer rc_process_message(uint8_t *state, size_t state_length, uint8_t *store, size_t store_length, uint8_t *out, size_t out_length,
                              uint64_t clock, uint8_t verdict, const uint8_t *packet, size_t packet_length);
 
-/* No packet: only the timeout is tested. Nonces late: RC_RESULT, kind 33 in out (the signers that are waited for, and the struck), or 12. Shares late: all
- * signers that are waited for are struck; then RC_PACKET, a nonce request (the retry), or RC_RESULT, kind 34 in out (the struck), where too few keys
- * are left. Asked 4, 5, 7, 12. */
+/* No packet: only the timeout is tested. Nonces late: RC_RESULT, kind 33 in out, or 12: two lists, fire.rs's sign_wait_signer_ids of the current
+ * message's record, which while nonces are gathered names the signers that HAVE answered it, and the struck. Shares late: all signers that are waited
+ * for are struck; then RC_PACKET, a nonce request (the retry), or RC_RESULT, kind 34 in out (the struck), where too few keys are left. Asked 4, 5, 7,
+ * 12. */
 rc_answer rc_process_timeout(uint8_t *state, size_t state_length, const uint8_t *store, size_t store_length, uint8_t *out, size_t out_length,
                              uint64_t clock);
 
@@ -184,7 +186,8 @@ rc_answer rc_aggregated(uint8_t *state, size_t state_length, const uint8_t *stor
 rc_answer rc_reset(uint8_t *state, size_t state_length, const uint8_t *store, size_t store_length);
 
 /* Whether the coordinator may move to a state: RC_RESULT, first 1 yes, 0 no. next: 0 to 14 in the Rust's order (0 Idle, 11 NonceRequest, 12 NonceGather,
- * 13 SigShareRequest, 14 SigShareGather). Ask it with 11 before a start. Asked 4, 5; a state above 14 or a type above 3 is refused with 8 before. */
+ * 13 SigShareRequest, 14 SigShareGather). With 11 it says whether a start would get 11; with 1 (DkgPublicDistribute) whether the coordinator is idle.
+ * Asked 4, 5; a state above 14 or a type above 3 is refused with 8 before. */
 rc_answer rc_can_move_to(uint8_t *state, size_t state_length, const uint8_t *store, size_t store_length, uint8_t next, uint8_t signature_type,
                          const uint8_t *root, size_t root_length);
 
@@ -215,6 +218,87 @@ rc_packet rc_read_packet(const uint8_t *packet, size_t packet_length);
  * and key ids. What only goes out (kinds 32 to 34) is not taken by the reader; its parts are found in the same way, by the pairs behind the header: 32
  * bytes of header (kind, type, the number of pairs in 2 bytes, the signer in 4, three ids in 8 each), then for each part its offset and its length in 4. */
 rc_part rc_packet_part(const uint8_t *packet, size_t packet_length, uint16_t i);
+
+/*
+ * Bench's writers, for a host that wants packets of its own: each writes one packet to the front of out, which has to have RC_ANSWER_LENGTH bytes
+ * (RC_REFUSED_ROOM), and leaves the bytes past it alone; a refusal writes nothing. Lists and messages over 01's limits are RC_REFUSED_LIMIT, a signature
+ * type above 3 is RC_REFUSED_LAYOUT. What the coordinator sends, its calls write by themselves. Packets of signers (kinds 2 and 4) have no writer here yet.
+ */
+typedef struct rc_written {
+    uint32_t refusal; /* 0, or RC_REFUSED_... */
+    uint32_t reserved;
+    uint64_t length; /* of the packet */
+} rc_written;
+
+/* Ids, type and root of a request or a job. root counts where the type is RC_TAPROOT_ROOT. reserved is not looked at. */
+typedef struct rc_head {
+    uint64_t dkg_id;
+    uint64_t sign_id;
+    uint64_t sign_iter_id;
+    uint8_t signature_type;
+    uint8_t reserved[7];
+    uint8_t root[32];
+} rc_head;
+
+/* The first count of ids; a count above RC_SIGNER_LIMIT is RC_REFUSED_LIMIT. */
+typedef struct rc_signer_ids {
+    uint32_t ids[RC_SIGNER_LIMIT];
+    uint64_t count;
+} rc_signer_ids;
+
+/* A list in the bytes that are lent as source: where it begins, and how many entries it has. One that does not lie inside is RC_REFUSED_LIMIT. */
+typedef struct rc_place {
+    uint64_t at;
+    uint64_t count;
+} rc_place;
+
+/* A nested response: message (entries of 1 byte), key ids (4), nonces (66). */
+typedef struct rc_response {
+    uint64_t dkg_id;
+    uint64_t sign_id;
+    uint64_t sign_iter_id;
+    uint32_t signer_id;
+    uint32_t reserved;
+    rc_place message;
+    rc_place key_ids;
+    rc_place nonces;
+} rc_response;
+
+typedef struct rc_responses {
+    rc_response places[RC_SIGNER_LIMIT];
+    uint64_t count;
+} rc_responses;
+
+/* A signer's part of a job: key ids (4), nonces (66), shares (36: id and z_i), and from share_keys_at on the shares' key ids one after the other, so many
+ * for each share. Signers are given in ascending order of their ids. */
+typedef struct rc_job_place {
+    rc_place key_ids;
+    rc_place nonces;
+    rc_place shares;
+    uint64_t share_keys_at;
+    uint8_t share_key_counts[RC_KEY_LIMIT];
+} rc_job_place;
+
+typedef struct rc_job_places {
+    rc_job_place places[RC_SIGNER_LIMIT];
+    uint64_t count;
+} rc_job_places;
+
+/* Kinds 1, 3 and 32. */
+rc_written rc_write_nonce_request(uint8_t *out, size_t out_length, rc_head head, const uint8_t *message, size_t message_length);
+rc_written rc_write_signature_share_request(uint8_t *out, size_t out_length, rc_head head, const uint8_t *message, size_t message_length,
+                                            const uint8_t *source, size_t source_length, rc_responses places);
+rc_written rc_write_job(uint8_t *out, size_t out_length, rc_head head, const uint8_t *message, size_t message_length, const uint8_t *source,
+                        size_t source_length, rc_job_places places);
+
+/* Kinds 5, 6 and 7. */
+rc_written rc_write_dkg_begin(uint8_t *out, size_t out_length, uint64_t dkg_id);
+rc_written rc_write_dkg_signer(uint8_t *out, size_t out_length, uint32_t signer_id, uint64_t dkg_id);
+rc_written rc_write_dkg_coordinator(uint8_t *out, size_t out_length, uint64_t dkg_id);
+
+/* Kinds 33 and 34. */
+rc_written rc_write_nonce_timeout(uint8_t *out, size_t out_length, rc_signer_ids waiters, rc_signer_ids malicious);
+rc_written rc_write_insufficient_signers(uint8_t *out, size_t out_length, rc_signer_ids malicious);
 
 #ifdef __cplusplus
 }

@@ -11,7 +11,7 @@ use Rattle.validity.specs.declared.keys.KeyIds.{KeyIds}
 use Rattle.validity.specs.Keys.{listed}
 use Rattle.state.specs.declared.fields.SignerEntry.{SignerEntry}
 use Rattle.state.specs.Counts.{entryWithin}
-use Rattle.key_counts.specs.Sets.{setOf}
+use Rattle.key_sets.specs.Sets.{setOf}
 use Rattle.configuration.specs.declared.new_config.NewSigner.{NewSigner}
 use Rattle.configuration.specs.NewConfig.{keysGiven}
 use Rattle.configuration.proofs.Sets.{keys-none}

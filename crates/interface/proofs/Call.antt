@@ -20,7 +20,7 @@ use Rattle.state_bytes.specs.Loaded.{isSaved, loaded}
 use Rattle.state_bytes.proofs.Loads.{load-put}
 use Rattle.interface.specs.declared.answers.RcAnswer.{RcAnswer}
 use Rattle.interface.specs.declared.loads.Loaded.{Loaded}
-use Rattle.interface.specs.Answers.{classNumber, classOf, numberOf, flat, told}
+use Rattle.interface.specs.Answers.{classNumber, classOf, flat, told}
 use Rattle.interface.specs.Called.{Called}
 
 class-told : (k : Class) → classOf (classNumber k) ≡ T.classOf k
@@ -44,29 +44,12 @@ told-flat a out = rw (class-told (a .class), mark-told (a .mark))
 abbrev pub Kept : Bool → List ℕ → Done → RcAnswer → List ℕ → Type 0
 Kept w state d r state′ = (r ≡ flat (d .answer)) × ((state′ ≡ cond w (put state 0 (saved (d .after))) state) × Saves (d .after))
 
-class-numbered : (k : Class) → classNumber k ≡ numberOf (T.classOf k)
-class-numbered Nothing = refl
-class-numbered Packet = refl
-class-numbered Job = refl
-class-numbered Result = refl
-class-numbered Error = refl
-
--- the numbers themselves
-class-flat : (a : Answer) (out : List ℕ) → flat a .class ≡ numberOf (said a out .class)
-unfolding flat said
-class-flat a out = class-numbered (a .class)
-
-mark-flat : (a : Answer) (out : List ℕ) → flat a .mark ≡ cond (said a out .mark) 1 0
-unfolding flat said
-mark-flat a out = refl
-
 module _ {state out state′ store′ out′ : List ℕ} {r : RcAnswer} {d : Done} where
   pub called : (w : Bool) (t : Turn) → Did t out d store′ out′ → Kept w state d r state′ → Called w t state out r state′ store′ out′
   called w t did kept =
       record {
+        exact = kept .0 ∙ ap flat (did .exact);
         answered = rw (kept .0) (told-flat (d .answer) out′ ∙ did .answered);
-        class-number = rw (kept .0) (class-flat (d .answer) out′ ∙ ap (λ (a : A.Answer). numberOf (a .class)) (did .answered));
-        mark-number = rw (kept .0) (mark-flat (d .answer) out′ ∙ ap (λ (a : A.Answer). cond (a .mark) 1 0) (did .answered));
         kept = rw (← did .after) (kept .1 .0);
         loads = λ y l. rw (← did .after, kept .1 .0, y) (load-put state (d .after) (kept .1 .1) l);
         stored = did .stored;

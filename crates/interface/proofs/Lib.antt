@@ -1,5 +1,4 @@
 -- Arrays that a loop makes of others; what loading gives; what a call did.
 -- Assumes nothing.
-pub mod Mapped
 pub mod Loading
 pub mod Call

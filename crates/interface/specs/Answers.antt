@@ -29,17 +29,9 @@ flat a =
       length = a .length;
     }
 
--- the class of a number; what no answer has counts as an error
+-- the class of a number; one that no answer has counts as nothing
 unfoldable pub classOf : ℕ → A.Class
-classOf n = cond (eqb n 0) A.nothing (cond (eqb n 1) A.packet (cond (eqb n 2) A.job (cond (eqb n 3) A.result A.error)))
-
--- the number of a class
-abbrev pub numberOf : A.Class → ℕ
-numberOf A.nothing = 0
-numberOf A.packet = 1
-numberOf A.job = 2
-numberOf A.result = 3
-numberOf A.error = 4
+classOf n = cond (eqb n 1) A.packet (cond (eqb n 2) A.job (cond (eqb n 3) A.result (cond (eqb n 4) A.error A.nothing)))
 
 -- 01's answer, of the numbers and of the buffer after the call
 unfoldable pub told : RcAnswer → List ℕ → A.Answer

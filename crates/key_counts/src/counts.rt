@@ -12,10 +12,11 @@ ghost use Rattle.state.specs.Slots.{collect};
 ghost use Rattle.state.specs.Counts.{entries, entryWithin};
 ghost use Rattle.state.specs.View.{slotsOf, configOf, heldIn, flaggedIn};
 ghost use Rattle.signers.specs.Order.{ordered};
-ghost use Rattle.key_counts.specs.Sets.{setOf, InOrder, heldKeys, flaggedSizes};
+ghost use Rattle.key_sets.specs.Sets.{setOf};
+ghost use Rattle.key_counts.specs.Sets.{InOrder, heldKeys, flaggedSizes};
 use crate::keys;
-use crate::keys::KEY_LIMIT;
-use crate::keys::KeySet;
+use crate::keys::DifferentKeys;
+use key_sets::keys::KEY_LIMIT;
 use layout::SIGNER_LIMIT;
 use signers::order;
 use signers::order::Order;
@@ -73,7 +74,7 @@ fn held_keys(o: Order, g: Config, row: SignRoundInfo) -> usize
     let signers = g.signers;
     let slots = row.slots;
     let places = o.slots;
-    let mut set = KeySet {
+    let mut set = DifferentKeys {
         ids: [0; KEY_LIMIT],
         count: 0,
     };

@@ -1,2 +1,3 @@
 -- Laws of what a writer is given.
 pub mod Given
+pub mod Mapped

@@ -9,6 +9,14 @@ ghost use Rattle.layout.specs.Decode.{decode};
 ghost use Rattle.parts.specs.Parts.{partIn};
 ghost use Rattle.packet_in_hand.specs.InHand.{counted};
 ghost use Rattle.reading.specs.Plain.{packetOf, placeIn};
+ghost use Rattle.layout.specs.Messages.{nonceRequest, dkgBegin, dkgSigner, dkgCoordinator};
+ghost use Rattle.framing.specs.Writing.{writeMessage};
+ghost use Rattle.body.specs.Body.{requestOf};
+ghost use Rattle.requests.specs.Requests.{writeShareRequest};
+ghost use Rattle.writer.specs.Results.{writeNonceTimeout, writeInsufficientSigners};
+ghost use Rattle.job.specs.Job.{writeJob};
+ghost use Rattle.writing.specs.Given.{headOf, signersGiven, responsesOf, jobPlacesOf};
+ghost use Rattle.writing.specs.Written.{typed, WrotePlain};
 ghost use Rattle.state_bytes.specs.Places.{stateLength};
 ghost use Rattle.interface.specs.Configs.{configOf, isYes};
 ghost use Rattle.interface.specs.Called.{Called};
@@ -26,6 +34,12 @@ use interface::answers::RcAnswer;
 use interface::configs::RcConfig;
 use reading::RcPacket;
 use reading::RcPart;
+use writing::given::RcHead;
+use writing::given::RcJobPlaces;
+use writing::given::RcResponses;
+use writing::given::RcSignerIds;
+use writing::written;
+use writing::written::RcWritten;
 
 // A state buffer that is too short is refused with 4, and nothing is written.
 #[no_mangle]
@@ -196,4 +210,88 @@ pub extern "C" fn rc_packet_part(packet: &[u8], i: u16) -> RcPart
         × (r .at + r .length ≤ length (now (packet .entry))) ⌝ }
 {
     reading::packet_part(packet, i)
+}
+
+// Bench's writers, called alone: 7 and 9, and 8 for a type above 3.
+#[no_mangle]
+pub extern "C" fn rc_write_nonce_request(out: &mut [u8], given: RcHead, message: &[u8]) -> RcWritten
+    ensures { λ r. ⌜ WrotePlain (typed (given .«signature_type»)
+        (writeMessage (length (now (out .entry))) (nonceRequest (requestOf (headOf given) (now (message .entry))))))
+        (now (out .entry)) r (now (out .exit)) ⌝ }
+{
+    written::write_nonce_request(out, given, message)
+}
+
+#[no_mangle]
+pub extern "C" fn rc_write_signature_share_request(
+    out: &mut [u8],
+    given: RcHead,
+    message: &[u8],
+    source: &[u8],
+    places: RcResponses,
+) -> RcWritten
+    ensures { λ r. ⌜ WrotePlain (typed (given .«signature_type»)
+        (writeShareRequest (length (now (out .entry))) (headOf given) (now (message .entry)) (now (source .entry)) (responsesOf places)))
+        (now (out .entry)) r (now (out .exit)) ⌝ }
+{
+    written::write_signature_share_request(out, given, message, source, places)
+}
+
+#[no_mangle]
+pub extern "C" fn rc_write_job(
+    out: &mut [u8],
+    given: RcHead,
+    message: &[u8],
+    source: &[u8],
+    places: RcJobPlaces,
+) -> RcWritten
+    ensures { λ r. ⌜ WrotePlain (typed (given .«signature_type»)
+        (writeJob (length (now (out .entry))) (headOf given) (now (message .entry)) (now (source .entry)) (jobPlacesOf places)))
+        (now (out .entry)) r (now (out .exit)) ⌝ }
+{
+    written::write_job(out, given, message, source, places)
+}
+
+#[no_mangle]
+pub extern "C" fn rc_write_dkg_begin(out: &mut [u8], dkg_id: u64) -> RcWritten
+    ensures { λ r. ⌜ WrotePlain (writeMessage (length (now (out .entry))) (dkgBegin «dkg_id»))
+        (now (out .entry)) r (now (out .exit)) ⌝ }
+{
+    written::write_dkg_begin(out, dkg_id)
+}
+
+#[no_mangle]
+pub extern "C" fn rc_write_dkg_signer(out: &mut [u8], signer_id: u32, dkg_id: u64) -> RcWritten
+    ensures { λ r. ⌜ WrotePlain (writeMessage (length (now (out .entry))) (dkgSigner «signer_id» «dkg_id»))
+        (now (out .entry)) r (now (out .exit)) ⌝ }
+{
+    written::write_dkg_signer(out, signer_id, dkg_id)
+}
+
+#[no_mangle]
+pub extern "C" fn rc_write_dkg_coordinator(out: &mut [u8], dkg_id: u64) -> RcWritten
+    ensures { λ r. ⌜ WrotePlain (writeMessage (length (now (out .entry))) (dkgCoordinator «dkg_id»))
+        (now (out .entry)) r (now (out .exit)) ⌝ }
+{
+    written::write_dkg_coordinator(out, dkg_id)
+}
+
+#[no_mangle]
+pub extern "C" fn rc_write_nonce_timeout(
+    out: &mut [u8],
+    waiters: RcSignerIds,
+    malicious: RcSignerIds,
+) -> RcWritten
+    ensures { λ r. ⌜ WrotePlain (writeNonceTimeout (length (now (out .entry))) (signersGiven waiters) (signersGiven malicious))
+        (now (out .entry)) r (now (out .exit)) ⌝ }
+{
+    written::write_nonce_timeout(out, waiters, malicious)
+}
+
+#[no_mangle]
+pub extern "C" fn rc_write_insufficient_signers(out: &mut [u8], malicious: RcSignerIds) -> RcWritten
+    ensures { λ r. ⌜ WrotePlain (writeInsufficientSigners (length (now (out .entry))) (signersGiven malicious))
+        (now (out .entry)) r (now (out .exit)) ⌝ }
+{
+    written::write_insufficient_signers(out, malicious)
 }

@@ -46,4 +46,4 @@ module _ (clock : ℕ) (t : SignatureType) (s : Coordinator) (store : List ℕ) 
       unfolding shareTimeoutTurn recordAsked unless rowTurn excludedTurn retryTurn
       retry-did n out′ e =
           rw (← at, lt-ltb p (s .records .count) h, ← waiting, ← excluded, ← counted, n)
-          (record { answered = e .answered; after = e .after; stored = e .stored; buffered = e .buffered })
+          (record { exact = e .exact; answered = e .answered; after = e .after; stored = e .stored; buffered = e .buffered })

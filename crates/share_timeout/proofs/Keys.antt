@@ -19,7 +19,8 @@ use Rattle.state.specs.Slots.{signerSlot, placeSlot, slotsFrom, collect}
 use Rattle.state.specs.Counts.{sum, entries, keyCount, isWithin}
 use Rattle.state.specs.View.{entryId, noEntry, slotsOf, configOf, flaggedIn}
 use Rattle.state.proofs.Within.{within, keys-few}
-use Rattle.key_counts.specs.Sets.{setOf, flaggedSizes}
+use Rattle.key_sets.specs.Sets.{setOf}
+use Rattle.key_counts.specs.Sets.{flaggedSizes}
 use Rattle.key_counts.proofs.Walking.{sizes}
 
 -- a set is no larger than it counts

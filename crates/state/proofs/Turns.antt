@@ -12,6 +12,7 @@ use lib.Seq.{take-at}
 use Rattle.layout.specs.Limits.{signerLimit, storeLength, answerLength}
 use Rattle.step_definition.specs.Calls as A
 use Rattle.state.specs.declared.answers.Class.{Class}
+use Rattle.state.specs.declared.answers.Class.the-variants.{Nothing, Packet, Job, Result, Error}
 use Rattle.state.specs.declared.answers.Asks.{Asks}
 use Rattle.state.specs.declared.answers.Done.{Done}
 use Rattle.state.specs.declared.answers.Passed.{Passed}
@@ -19,41 +20,49 @@ use Rattle.state.specs.declared.answers.Passed.the-variants.{Yes, No}
 use Rattle.state.specs.declared.fields.Coordinator.{Coordinator}
 use Rattle.state.specs.Counts.{isWithin}
 use Rattle.state.proofs.Within.{within, config-few}
-use Rattle.state.specs.Turns.{Turn, turn, Did, said, classOf, asked, askedIf, unless}
+use Rattle.state.specs.Turns.{Turn, turn, Did, said, classOf, classIn, answerOf, asked, askedIf, unless}
 use Rattle.state.specs.Turns.{plainAnswer, refusedAnswer, sendingAnswer, mismatchedAnswer, blamingAnswer, handingAnswer}
 use Rattle.framing.specs.declared.Written.{Written}
 use Rattle.framing.specs.declared.Written.the-variants.{Bytes}
 use Rattle.framing.specs.declared.Written.the-variants.{Refused as WriteRefused}
 use Rattle.framing.specs.Writing.{Wrote, written, answer, buffer}
 
+class-in : (k : Class) → k ≡ classIn (classOf k)
+class-in Nothing = refl
+class-in Packet = refl
+class-in Job = refl
+class-in Result = refl
+class-in Error = refl
+
 pub refused-did :
     {p : Passed} {n : ℕ} {s : Coordinator} {r : Done} (store out : List ℕ) (rest : Turn) → p ≡ No n → r ≡ record { answer = refusedAnswer n; after = s }
     → Did (unless p s store rest) out r store out
-unfolding unless said
-refused-did store out rest e d = rw (e, d) (record { answered = refl; after = refl; stored = refl; buffered = refl })
+unfolding unless said answerOf
+refused-did store out rest e d = rw (e, d) (record { exact = refl; answered = refl; after = refl; stored = refl; buffered = refl })
 
 pub quiet-did :
     {p : Passed} {t : Coordinator} {r : Done} (s : Coordinator) (store store′ out : List ℕ) → p ≡ Yes → r ≡ record { answer = plainAnswer; after = t }
     → Did (unless p s store (turn A.plain t store′)) out r store′ out
-unfolding unless said
-quiet-did s store store′ out e d = rw (e, d) (record { answered = refl; after = refl; stored = refl; buffered = refl })
+unfolding unless said answerOf
+quiet-did s store store′ out e d = rw (e, d) (record { exact = refl; answered = refl; after = refl; stored = refl; buffered = refl })
 
 -- an error, whatever it changed
 pub error-did :
     {n : ℕ} {s : Coordinator} {r : Done} (store out : List ℕ) → r ≡ record { answer = refusedAnswer n; after = s }
     → Did (turn (A.refusing A.error n []) s store) out r store out
-unfolding said
-error-did store out d = rw d (record { answered = refl; after = refl; stored = refl; buffered = refl })
+unfolding said answerOf
+error-did store out d = rw d (record { exact = refl; answered = refl; after = refl; stored = refl; buffered = refl })
 
 -- bytes sent, at the front of the buffer
 pub sent-did :
     {k : Class} {n : ℕ} {s : Coordinator} {r : Done} {bs out out′ : List ℕ} (es : List A.Event) (store : List ℕ)
     → r ≡ record { answer = sendingAnswer k n; after = s } → n ≡ length bs → out′ ≡ bs ++ drop (length bs) out
     → Did (record { answer = A.sending (classOf k) bs; events = es; after = s; store = store }) out r store out′
-unfolding said
+unfolding said answerOf
 sent-did {k} {n} {s} {r} {bs} {out} es store d e b =
     rw (d, e, b)
     (record {
+      exact = ap (λ (x : Class). sendingAnswer x (length bs)) (class-in k);
       answered = ap (λ (xs : List ℕ). A.sending (classOf k) xs) (take-at bs (drop (length bs) out) (length bs) refl);
       after = refl;
       stored = refl;
@@ -64,37 +73,40 @@ sent-did {k} {n} {s} {r} {bs} {out} es store d e b =
 pub plain-did :
     {s : Coordinator} {r : Done} (es : List A.Event) (store out : List ℕ) → r ≡ record { answer = plainAnswer; after = s }
     → Did (record { answer = A.plain; events = es; after = s; store = store }) out r store out
-unfolding said
-plain-did es store out d = rw d (record { answered = refl; after = refl; stored = refl; buffered = refl })
+unfolding said answerOf
+plain-did es store out d = rw d (record { exact = refl; answered = refl; after = refl; stored = refl; buffered = refl })
 
 -- an error, whatever happened
 pub failing-did :
     {n : ℕ} {s : Coordinator} {r : Done} (es : List A.Event) (store out : List ℕ) → r ≡ record { answer = refusedAnswer n; after = s }
     → Did (record { answer = A.refusing A.error n []; events = es; after = s; store = store }) out r store out
-unfolding said
-failing-did es store out d = rw d (record { answered = refl; after = refl; stored = refl; buffered = refl })
+unfolding said answerOf
+failing-did es store out d = rw d (record { exact = refl; answered = refl; after = refl; stored = refl; buffered = refl })
 
 pub mismatched-did :
     {k : Class} {n got expected : ℕ} {s : Coordinator} {r : Done} (store out : List ℕ) → r ≡ record { answer = mismatchedAnswer k n got expected; after = s }
     → Did (turn (A.refusing (classOf k) n (got ∷ (expected ∷ []))) s store) out r store out
-unfolding said
-mismatched-did store out d = rw d (record { answered = refl; after = refl; stored = refl; buffered = refl })
+unfolding said answerOf
+mismatched-did {k} {n} {got} {expected} store out d =
+    rw d
+    (record { exact = ap (λ (x : Class). mismatchedAnswer x n got expected) (class-in k); answered = refl; after = refl; stored = refl; buffered = refl })
 
 pub blaming-did :
     {n signer : ℕ} {s : Coordinator} {r : Done} (store out : List ℕ) → r ≡ record { answer = blamingAnswer n signer; after = s }
     → Did (turn (A.refusing A.result n (signer ∷ [])) s store) out r store out
-unfolding said
-blaming-did store out d = rw d (record { answered = refl; after = refl; stored = refl; buffered = refl })
+unfolding said answerOf
+blaming-did store out d = rw d (record { exact = refl; answered = refl; after = refl; stored = refl; buffered = refl })
 
 -- a job's bytes with its mark
 pub handed-did :
     {whole : Bool} {n : ℕ} {s : Coordinator} {r : Done} {bs out out′ : List ℕ} (es : List A.Event) (store : List ℕ)
     → r ≡ record { answer = handingAnswer whole n; after = s } → n ≡ length bs → out′ ≡ bs ++ drop (length bs) out
     → Did (record { answer = A.handing whole bs; events = es; after = s; store = store }) out r store out′
-unfolding said
+unfolding said answerOf
 handed-did {whole} {n} {s} {r} {bs} {out} es store d e b =
     rw (d, e, b)
     (record {
+      exact = refl;
       answered = ap (λ (xs : List ℕ). A.handing whole xs) (take-at bs (drop (length bs) out) (length bs) refl);
       after = refl;
       stored = refl;

@@ -5,7 +5,7 @@ use mathlib.Core.Bool.{Bool, false, cond, not, _||_}
 use mathlib.Core.List.{List, [], _∷_, _++_}
 use lib.Dec.{leb}
 use Rattle.layout.specs.Limits.{storeLength, answerLength}
-use lib.ListN.{length, take, drop}
+use lib.ListN.{length, getD, take, drop}
 use Rattle.step_definition.specs.Calls as A
 use Rattle.state.specs.declared.answers.Class.{Class}
 use Rattle.state.specs.declared.answers.Class.the-variants.{Nothing, Packet, Job, Result, Error}
@@ -65,6 +65,26 @@ said a out =
       bytes = take (a .length) out;
     }
 
+-- the struct that tells an answer of 01's, whole: what no value of the answer fills is 0
+abbrev pub classIn : A.Class → Class
+classIn A.nothing = Nothing
+classIn A.packet = Packet
+classIn A.job = Job
+classIn A.result = Result
+classIn A.error = Error
+
+unfoldable pub answerOf : A.Answer → Answer
+answerOf a =
+    record {
+      class = classIn (a .class);
+      number = a .number;
+      first = getD (a .values) 0 0;
+      second = getD (a .values) 1 0;
+      values = length (a .values);
+      mark = a .mark;
+      length = length (a .bytes);
+    }
+
 -- what a call gives, and what happened in it
 pub record Turn : Type 0 where
   pub answer : A.Answer
@@ -80,8 +100,9 @@ turn a s store = record { answer = a; events = []; after = s; store = store }
 abbrev pub errorTurn : ℕ → Coordinator → List ℕ → Turn
 errorTurn n s store = turn (A.refusing A.error n []) s store
 
--- the call did what the definition says
+-- the call did what the definition says. `exact` leaves nothing of the struct's answer open; `answered` is what a host reads off it
 pub record Did (t : Turn) (out : List ℕ) (r : Done) (store′ out′ : List ℕ) : Type 0 where
+  pub exact : r .answer ≡ answerOf (t .answer)
   pub answered : said (r .answer) out′ ≡ t .answer
   pub after : r .after ≡ t .after
   pub stored : store′ ≡ t .store

@@ -1,12 +1,15 @@
 -- Laws of little-endian numbers, over the width.
 -- Assumes nothing.
 use Prim.Native.Nat.{ℕ, zero, suc, _+_, _*_, _/_, _%_, _^_, _≤_, _<_}
-use mathlib.Core.Path.{_≡_, refl, ap}
+use mathlib.Core.Path.{_≡_, refl, sym, ap, _∙_}
+use mathlib.Core.Bool.{Bool, true}
 use mathlib.Core.List.{List, [], _∷_, _++_}
-use native.Mathlib.Nat.{pow-succ', pow-le-pow-right, div-lt-iff-lt-mul, mul-comm, lt-of-lt-of-le}
+use native.Mathlib.Nat.{pow-succ', pow-le-pow-right, div-lt-iff-lt-mul, mul-comm, mul-assoc, lt-of-lt-of-le, zero-add, suc-add}
 use native.Mathlib.Omega.{arith}
-use lib.ListN.{length, getD, take, drop, length-take}
-use lib.Seq.{getD-drop}
+use borrow.Author.Tests.{leb-true}
+use lib.Dec.{leb}
+use lib.ListN.{length, getD, take, drop, length-take, length-drop}
+use lib.Seq.{getD-drop, drop-cons, drop-drop}
 use Rattle.wire.specs.Bytes.{Bytes, le, number, numberAt}
 
 pub length-le : (n x : ℕ) → length (le n x) ≡ n
@@ -82,3 +85,38 @@ number-one zero [] = refl
 number-one zero (b ∷ bs) = omega arith
 number-one (suc at) [] = refl
 number-one (suc at) (b ∷ bs) = number-one at bs
+
+-- a field of m + n bytes: m of them, then n
+number-split : (m n : ℕ) (l : List ℕ) → m ≤ length l → number (take (m + n) l) ≡ number (take m l) + 256 ^ m * number (take n (drop m l))
+unfolding number
+number-split zero n l h = rw (zero-add n) (omega arith)
+number-split (suc m) n [] h = let z : ⊥ = omega arith in absurd z
+number-split (suc m) n (b ∷ bs) h =
+    let rest = number-split m n bs (omega arith) in
+    rw (suc-add m n, pow-succ', mul-assoc, rest) (omega arith)
+
+-- a field of eight bytes: two of four
+pub number-halves :
+    (s : List ℕ) (at : ℕ) → at + 8 ≤ length s → numberAt 4 at s + 4294967296 * numberAt 4 (at + 4) s ≡ numberAt 8 at s
+number-halves s at h = rw (← drop-drop 4 at s) (sym (number-split 4 4 (drop at s) (rw length-drop (omega arith))))
+
+-- a field of four bytes, byte by byte
+pub number-four :
+    (s : List ℕ) (at : ℕ) → at + 4 ≤ length s
+    → getD s at 0 + 256 * (getD s (at + 1) 0 + 256 * (getD s (at + 2) 0 + 256 * getD s (at + 3) 0)) ≡ numberAt 4 at s
+unfolding number
+number-four s at h =
+    let one : at + 1 ≡ suc at = omega arith in
+    let two : at + 2 ≡ suc (suc at) = omega arith in
+    let three : at + 3 ≡ suc (suc (suc at)) = omega arith in
+    rw (one, two, three, drop-cons s at 0 (omega arith), drop-cons s (suc at) 0 (omega arith), drop-cons s (suc (suc at)) 0 (omega arith), drop-cons s (suc (suc (suc at))) 0 (omega arith))
+    (omega arith)
+
+-- eight bytes: the four lowest, then the four highest
+pub le-halves : (x : ℕ) → le 4 x ++ le 4 (x / 4294967296) ≡ le 8 x
+unfolding le
+le-halves x = let e : x / 256 / 256 / 256 / 256 ≡ x / 4294967296 = omega arith in rw (← e)
+
+-- what is_inside says where it says yes
+pub inside : (at n size : ℕ) {r : Bool} → r ≡ leb (at + n) size → r ≡ true → at + n ≤ size
+inside at n size e t = leb-true (at + n) size (sym e ∙ t)

@@ -1,77 +1,73 @@
--- The loop keeps what is still to be written: put out i (le left y) is the whole field.
--- Assumes nothing.
+use borrow.Author.Needs.{needs}
 use Rattle.wire.proofs.put_number.Statement.{statement}
 use Rattle.wire.proofs.put_number.Tie as tie
-use Prim.Native.Nat.{suc, _-_, _%_}
-use mathlib.Core.Path.{_≡_, refl, sym, _∙_}
+use mathlib.Core.Path.{_≡_, _∙_, sym, ap}
 use native.Mathlib.Omega.{arith}
-use native.Mathlib.Numerals.{add-one}
-use borrow.Author.Needs.{needs}
-use lib.ListN.{length, length-set}
+use lib.ListN.{length}
+use denote.Ref.{now}
+use Prim.Native.Nat.{ℕ, _+_, _/_}
+use mathlib.Core.List.{List, _++_}
 use Rattle.wire.specs.Bytes.{put, le}
-use Rattle.wire.proofs.Buffer.{put-out}
+use Rattle.wire.proofs.Buffer.{put-next, length-put}
+use Rattle.wire.proofs.Numbers.{inside, le-halves, length-le}
 
-abbrev Inv-loop : tie.InvT-loop
-Inv-loop out₀ at n x i₀ left₀ y₀ out i left y = (length out ≡ length out₀) × (put out i (le left y) ≡ put out₀ at (le n x))
+-- two halves, one after the other
+halves : (out mid after : List ℕ) (at n x : ℕ) → n ≡ 8 → mid ≡ put out at (le 4 x) → after ≡ put mid (at + 4) (le 4 (x / 4294967296)) → after ≡ put out at (le n x)
+halves out mid after at n x e m a = rw (e, a, m) (put-next out at (le 4 x) (at + 4) (le 4 (x / 4294967296)) (ap (λ (k : ℕ). at + k) (length-le 4 x)) ∙ ap (put out at) (le-halves x))
 
-abbrev μ-loop : tie.MeasureT-loop
-μ-loop out₀ at n x i₀ left₀ y₀ out i left y = left
+is-inside-requires : tie.Need-is-inside-requires
+is-inside-requires c κs = search needs
 
-loop-holds : tie.Need-loop-holds Inv-loop μ-loop
-loop-holds c = (refl, refl)
+put-four-requires : tie.Need-put-four-requires
+put-four-requires c κs = let a = c .before .before .before .before .before .args in omega (arith, inside (a .at) 8 (length (now (a .out))) (c .before .before .is-inside .ensures) (c .before .if2 .taken))
 
-same-length : tie.Need-same-length Inv-loop μ-loop
+add-put-four : tie.Need-add-put-four
+add-put-four c = let a = c .before .before .before .before .before .before .before .before .before .args in record { fits = omega (arith, inside (a .at) 8 (length (now (a .out))) (c .before .before .before .before .before .before .is-inside .ensures) (c .before .before .before .before .before .if2 .taken)) }
+
+put-four-requires-2 : tie.Need-put-four-requires-2
+put-four-requires-2 c κs = let a = c .before .before .before .before .before .before .before .before .before .args in rw (c .before .before .before .put-four .ensures, length-put) (omega (arith, inside (a .at) 8 (length (now (a .out))) (c .before .before .before .before .before .before .is-inside .ensures) (c .before .before .before .before .before .if2 .taken)))
+
+same-length : tie.Need-same-length
 same-length c = search needs
 
-returns : tie.Need-returns Inv-loop μ-loop
-returns c = sym (put-out _ _ _ (c .if1 .taken)) ∙ c .before .before .loop .inv .1
+returns : tie.Need-returns
+returns c = let a = c .before .before .before .before .before .before .before .before .before .before .before .before .args in halves (now (a .out)) _ _ (a .at) (a .n) (a .x) (c .before .before .before .before .before .before .before .before .before .before .if1 .taken) (c .before .before .before .before .before .before .put-four .ensures) (c .before .before .put-four2 .ensures)
 
-cast-out : tie.Need-cast-out Inv-loop μ-loop
-cast-out c = search needs
+is-inside-requires-2 : tie.Need-is-inside-requires-2
+is-inside-requires-2 c κs = search needs
 
-slice-write-out : tie.Need-slice-write-out Inv-loop μ-loop
-slice-write-out c = search needs
+put-four-requires-3 : tie.Need-put-four-requires-3
+put-four-requires-3 c κs = let a = c .before .before .before .before .before .before .args in inside (a .at) 4 (length (now (a .out))) (c .before .before .is-inside2 .ensures) (c .before .if4 .taken)
 
-add-i : tie.Need-add-i Inv-loop μ-loop
-add-i c = search needs
-
-sub-left : tie.Need-sub-left Inv-loop μ-loop
-sub-left c = search needs
-
-loop-less : tie.Need-loop-less Inv-loop μ-loop
-loop-less c = omega arith
-
-loop-again : tie.Need-loop-again Inv-loop μ-loop
-unfolding put le
-loop-again c = let v = c .before .before .loop in
-    let e : v .left ≡ suc (v .left - 1) = omega arith in (
-      (length-set (v .out) (v .i) (v .y % 256) ∙ v .inv .0),
-      rw add-one (rw e at (v .inv .1)),
-    )
-
-same-length-2 : tie.Need-same-length-2 Inv-loop μ-loop
+same-length-2 : tie.Need-same-length-2
 same-length-2 c = search needs
 
-returns-2 : tie.Need-returns-2 Inv-loop μ-loop
-unfolding put le
-returns-2 c = let v = c .before .loop in
-    let e : v .left ≡ 0 = omega arith in
-    rw e at (v .inv .1)
+returns-2 : tie.Need-returns-2
+returns-2 c = rw (c .before .before .before .before .before .before .if3 .taken) (c .before .before .put-four3 .ensures)
+
+put-bytes-requires : tie.Need-put-bytes-requires
+put-bytes-requires c κs = search needs
+
+same-length-3 : tie.Need-same-length-3
+same-length-3 c = search needs
+
+returns-3 : tie.Need-returns-3
+returns-3 c = search needs
 
 pub put-number-spec : {M : Type 1} → statement M
 put-number-spec =
     tie.close
     (tie.spec
-    Inv-loop
-    μ-loop
-    loop-holds
+    is-inside-requires
+    put-four-requires
+    add-put-four
+    put-four-requires-2
     same-length
     returns
-    cast-out
-    slice-write-out
-    add-i
-    sub-left
-    loop-less
-    loop-again
+    is-inside-requires-2
+    put-four-requires-3
     same-length-2
-    returns-2)
+    returns-2
+    put-bytes-requires
+    same-length-3
+    returns-3)

@@ -1,14 +1,12 @@
--- The loop keeps what is still to be compared.
--- Assumes nothing.
+use borrow.Author.Needs.{needs}
 use Rattle.wire.proofs.same.Statement.{statement}
 use Rattle.wire.proofs.same.Tie as tie
 use Prim.Native.Nat.{ℕ, suc, _-_, _≤_, _<_}
 use mathlib.Core.Path.{_≡_, refl, sym, _∙_, ap}
-use mathlib.Core.Bool.{true, false, _&&_}
+use mathlib.Core.Bool.{Bool, true, false, _&&_}
 use mathlib.Core.List.{List, [], _∷_}
 use native.Mathlib.Omega.{arith}
 use native.Mathlib.Numerals.{add-one}
-use borrow.Author.Needs.{needs}
 use borrow.Author.Tests.{eq-eqb, ne-eqb}
 use lib.Dec.{eqb}
 use lib.ListN.{length, getD, drop, drop-of-length-le}
@@ -35,11 +33,20 @@ ended : (a b : List ℕ) (i : ℕ) → length a ≤ i → length a ≡ length b 
 unfolding sameBytes
 ended a b i h e = rw (drop-of-length-le a h, drop-of-length-le b {i = i} (omega arith))
 
+-- a byte's test moves from what is left to what is done
+moved : (x s r : Bool) → ((x && s) && r) ≡ (s && (x && r))
+moved true s r = refl
+moved false s r = sym (and-false s)
+
+all-yes : (s r : Bool) → true ≡ r → (s && r) ≡ s
+all-yes true r e = sym e
+all-yes false r e = refl
+
 abbrev Inv-loop : tie.InvT-loop
-Inv-loop a b i₀ i = (i ≤ length a) × (length a ≡ length b) × (sameBytes (drop i a) (drop i b) ≡ sameBytes a b)
+Inv-loop a b so-far₀ i₀ so-far i = (i ≤ length a) × (length a ≡ length b) × ((so-far && sameBytes (drop i a) (drop i b)) ≡ sameBytes a b)
 
 abbrev μ-loop : tie.MeasureT-loop
-μ-loop a b i₀ i = length a - i
+μ-loop a b so-far₀ i₀ so-far i = length a - i
 
 returns : tie.Need-returns Inv-loop μ-loop
 returns c = longer _ _ (c .if1 .taken)
@@ -47,15 +54,14 @@ returns c = longer _ _ (c .if1 .taken)
 loop-holds : tie.Need-loop-holds Inv-loop μ-loop
 loop-holds c = (omega arith, c .if1 .left, refl)
 
-shared-slice-read-if2 : tie.Need-shared-slice-read-if2 Inv-loop μ-loop
-shared-slice-read-if2 c = search needs
+shared-slice-read-still : tie.Need-shared-slice-read-still Inv-loop μ-loop
+shared-slice-read-still c = search needs
 
-shared-slice-read-if2-2 : tie.Need-shared-slice-read-if2-2 Inv-loop μ-loop
-shared-slice-read-if2-2 c = search needs
+shared-slice-read-still-2 : tie.Need-shared-slice-read-still-2 Inv-loop μ-loop
+shared-slice-read-still-2 c = search needs
 
-returns-2 : tie.Need-returns-2 Inv-loop μ-loop
-returns-2 c = let v = c .before .before .before .before .loop in let a = c .before .before .before .before .before .before .args in
-    sym (rw (ne-eqb _ _ (c .if2 .taken)) at (step (now (a .a)) (now (a .b)) (v .i) (c .before .before .before .loop-test .taken) (v .inv .1))) ∙ v .inv .2
+still-requires : tie.Need-still-requires Inv-loop μ-loop
+still-requires c κs = tt
 
 add-i : tie.Need-add-i Inv-loop μ-loop
 add-i c = search needs
@@ -64,12 +70,12 @@ loop-less : tie.Need-loop-less Inv-loop μ-loop
 loop-less c = omega arith
 
 loop-again : tie.Need-loop-again Inv-loop μ-loop
-loop-again c = let v = c .before .before .before .before .loop in let a = c .before .before .before .before .before .before .args in
-    (omega arith, v .inv .1, rw add-one (sym (rw (eq-eqb _ _ (c .if2 .left)) at (step (now (a .a)) (now (a .b)) (v .i) (c .before .before .before .loop-test .taken) (v .inv .1))) ∙ v .inv .2))
+loop-again c = let v = c .before .before .before .before .loop in let a = c .before .before .before .before .before .before .before .before .args in
+    (omega arith, v .inv .1, rw (add-one, c .still .ensures) (moved (eqb (getD (now (a .a)) (v .i) 0) (getD (now (a .b)) (v .i) 0)) (v .so-far) (sameBytes (drop (suc (v .i)) (now (a .a))) (drop (suc (v .i)) (now (a .b)))) ∙ ap (λ (t : Bool). v .so-far && t) (sym (step (now (a .a)) (now (a .b)) (v .i) (c .before .before .before .loop-test .taken) (v .inv .1))) ∙ v .inv .2))
 
-returns-3 : tie.Need-returns-3 Inv-loop μ-loop
-returns-3 c = let v = c .before .loop in let a = c .before .before .before .args in
-    ended (now (a .a)) (now (a .b)) (v .i) (c .loop-test .left) (v .inv .1) ∙ v .inv .2
+returns-2 : tie.Need-returns-2 Inv-loop μ-loop
+returns-2 c = let v = c .before .loop in let a = c .before .before .before .before .before .args in
+    sym (all-yes _ _ (ended (now (a .a)) (now (a .b)) (v .i) (c .loop-test .left) (v .inv .1))) ∙ v .inv .2
 
 pub same-spec : {M : Type 1} → statement M
 same-spec =
@@ -79,10 +85,10 @@ same-spec =
     μ-loop
     returns
     loop-holds
-    shared-slice-read-if2
-    shared-slice-read-if2-2
-    returns-2
+    shared-slice-read-still
+    shared-slice-read-still-2
+    still-requires
     add-i
     loop-less
     loop-again
-    returns-3)
+    returns-2)

@@ -2,7 +2,7 @@ use borrow.Author.Needs.{needs}
 use borrow.Author.Tests.{not-true, not-false}
 use mathlib.Core.Path.{refl, sym, ap, _∙_}
 use Rattle.state.specs.declared.fields.Coordinator.{Coordinator}
-use Rattle.state.specs.Turns.{said, failedAnswer, tellingAnswer}
+use Rattle.state.specs.Turns.{said, answerOf, failedAnswer, tellingAnswer}
 use Rattle.state.proofs.Turns.{refused-did}
 use Rattle.calls.proofs.Turns.{bare-did}
 use Rattle.calls.specs.Calls.{aggregatedTurn}
@@ -61,19 +61,19 @@ returns c = refused-did _ _ _ (sym (c .before .before .before .before .before2 .
 
 -- src/aggregator.rt:71:1
 returns-2 : tie.Need-returns-2
-unfolding aggregatedTurn said
+unfolding aggregatedTurn said answerOf
 returns-2 c =
     rw (not-true (c .before .before .before .before .before .before .before .args .ok) (c .before .before .if1 .taken))
     (bare-did _ _ _ (sym (c .before .before .before .before .before .before2 .ensures) ∙ c .before .before .before .enum-told .given .1)
-    (c .failed .ensures ∙ ap (λ (t : Coordinator). record { answer = failedAnswer 23; after = t }) (c .before .drop-job .ensures)) refl refl)
+    (c .failed .ensures ∙ ap (λ (t : Coordinator). record { answer = failedAnswer 23; after = t }) (c .before .drop-job .ensures)) refl refl refl)
 
 -- src/aggregator.rt:71:1
 returns-3 : tie.Need-returns-3
-unfolding aggregatedTurn said
+unfolding aggregatedTurn said answerOf
 returns-3 c =
     rw (not-false (c .before .before .before .before .before .before .before .before .before .args .ok) (c .before .before .before .before .if1 .left))
     (bare-did _ _ _ (sym (c .before .before .before .before .before .before .before .before2 .ensures) ∙ c .before .before .before .before .before .enum-told .given .1)
-    (c .telling .ensures ∙ (λ i. record { answer = tellingAnswer (c .before .before .kind-of .ensures i); after = c .before .to-idle .ensures i })) refl refl)
+    (c .telling .ensures ∙ (λ i. record { answer = tellingAnswer (c .before .before .kind-of .ensures i); after = c .before .to-idle .ensures i })) refl refl refl)
 
 pub aggregated-spec : {M : Type 1} → statement M
 aggregated-spec =

@@ -14,7 +14,7 @@ use Rattle.step_definition.specs.Calls as A
 use Rattle.step_definition.specs.Step.{yesNo}
 use Rattle.state.proofs.Turns.{refused-did}
 use Rattle.calls.proofs.Turns.{bare-did}
-use Rattle.state.specs.Turns.{said}
+use Rattle.state.specs.Turns.{said, answerOf, tellingAnswer}
 use Rattle.calls.specs.Calls.{moveTurn}
 
 -- src/moves.rt:22:9
@@ -52,17 +52,17 @@ returns c = refused-did _ _ _ (sym (c .before .before .before .before .before2 .
 
 -- src/moves.rt:13:1
 returns-2 : tie.Need-returns-2
-unfolding moveTurn said
+unfolding moveTurn said answerOf
 returns-2 c =
     bare-did _ _ _ (sym (c .before .before .before .before .before .before .before .before2 .ensures) ∙ c .before .before .before .before .before .enum-told .given .1)
-    (c .telling .ensures) (ap (λ (b : Bool). A.telling (yesNo b ∷ [])) (sym (c .before .if1 .taken) ∙ c .before .before .can-move-to .ensures)) refl
+    (c .telling .ensures) (ap (λ (b : Bool). tellingAnswer (yesNo b)) (sym (c .before .if1 .taken) ∙ c .before .before .can-move-to .ensures)) (ap (λ (b : Bool). A.telling (yesNo b ∷ [])) (sym (c .before .if1 .taken) ∙ c .before .before .can-move-to .ensures)) refl
 
 -- src/moves.rt:13:1
 returns-3 : tie.Need-returns-3
-unfolding moveTurn said
+unfolding moveTurn said answerOf
 returns-3 c =
     bare-did _ _ _ (sym (c .before .before .before .before .before .before .before .before2 .ensures) ∙ c .before .before .before .before .before .enum-told .given .1)
-    (c .telling2 .ensures) (ap (λ (b : Bool). A.telling (yesNo b ∷ [])) (sym (c .before .if1 .left) ∙ c .before .before .can-move-to .ensures)) refl
+    (c .telling2 .ensures) (ap (λ (b : Bool). tellingAnswer (yesNo b)) (sym (c .before .if1 .left) ∙ c .before .before .can-move-to .ensures)) (ap (λ (b : Bool). A.telling (yesNo b ∷ [])) (sym (c .before .if1 .left) ∙ c .before .before .can-move-to .ensures)) refl
 
 pub can-move-to-spec : {M : Type 1} → statement M
 can-move-to-spec =

@@ -6,7 +6,7 @@ use mathlib.Core.Path.{_≡_, refl, _∙_}
 use mathlib.Core.List.{[]}
 use native.Mathlib.Omega.{arith}
 use Rattle.step_definition.specs.Ids.{insertAll}
-use Rattle.key_counts.specs.Sets.{inSet}
+use Rattle.key_sets.specs.Sets.{inSet}
 use Rattle.configuration.specs.NewConfig.{keysGiven}
 use Rattle.configuration.specs.Made.{entryOf}
 use Rattle.configuration.proofs.Entries.{entry-within, entry-keys}

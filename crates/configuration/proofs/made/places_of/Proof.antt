@@ -7,8 +7,8 @@ use mathlib.Core.Path.{_≡_, refl}
 use native.Mathlib.Omega.{arith}
 use lib.ListN.{length, length-set}
 use Rattle.validity.specs.Keys.{keyOf, keyPlaces}
-use Rattle.key_counts.specs.Sets.{inSet}
-use Rattle.key_counts.proofs.Given.{keys-160}
+use Rattle.key_sets.specs.Sets.{inSet}
+use Rattle.key_sets.proofs.Given.{keys-160}
 use Rattle.configuration.specs.Made.{filled}
 use Rattle.configuration.proofs.Walks.{fill-next}
 

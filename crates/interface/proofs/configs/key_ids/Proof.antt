@@ -4,7 +4,7 @@ use Prim.Native.Nat.{_-_}
 use mathlib.Core.Path.{refl}
 use native.Mathlib.Omega.{arith}
 use Rattle.validity.specs.Keys.{keyOf}
-use Rattle.interface.proofs.Mapped.{Mapped, none-yet, one-more, all-of-it}
+use Rattle.pieces.proofs.Mapped.{Mapped, none-yet, one-more, all-of-it}
 use Rattle.interface.proofs.configs.key_ids.Statement.{statement}
 use Rattle.interface.proofs.configs.key_ids.Tie as tie
 

@@ -5,7 +5,7 @@ use mathlib.Core.Path.{refl}
 use native.Mathlib.Omega.{arith}
 use borrow.Author.Needs.{needs}
 use Rattle.interface.specs.Configs.{signerOf}
-use Rattle.interface.proofs.Mapped.{Mapped, none-yet, one-more, all-of-it}
+use Rattle.pieces.proofs.Mapped.{Mapped, none-yet, one-more, all-of-it}
 use Rattle.interface.proofs.configs.signers.Statement.{statement}
 use Rattle.interface.proofs.configs.signers.Tie as tie
 

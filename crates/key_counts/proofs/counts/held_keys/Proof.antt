@@ -2,7 +2,8 @@
 -- Assumes nothing.
 use Rattle.key_counts.proofs.counts.held_keys.Statement.{statement}
 use Rattle.key_counts.proofs.counts.held_keys.Tie as tie
-use Prim.Native.Nat.{_≤_, _-_, _+_, _*_}
+use Rattle.validity.specs.Keys.{member}
+use Prim.Native.Nat.{ℕ, _≤_, _-_, _+_, _*_}
 use mathlib.Core.Path.{_≡_, refl, sym, ap, _∙_}
 use native.Mathlib.Omega.{arith}
 use lib.ListN.{length, take, drop}
@@ -11,17 +12,17 @@ use Rattle.state.specs.Slots.{signerSlot}
 use Rattle.state.specs.View.{noEntry}
 use Rattle.signers.proofs.Given.{order-10}
 use Rattle.signers.specs.Order.{ordered}
-use Rattle.key_counts.specs.Sets.{inSet, Kept, heldKeys}
+use Rattle.key_counts.specs.Sets.{Counted, heldKeys}
 use Rattle.key_counts.proofs.Walking.{none-left, held-next, held-over, live-slot, live-entry}
 
 abbrev Inv-loop : tie.InvT-loop
-Inv-loop signers slots places set₀ k₀ set k = (length signers ≡ 10) × (length places ≡ 10) × (k₀ ≤ 10) × (k ≤ k₀) × (set .count + 16 * k ≤ 16 * k₀) × Kept set × (inSet set ≡ heldKeys signers slots (drop k (take k₀ places)))
+Inv-loop signers slots places set₀ k₀ set k = (length signers ≡ 10) × (length places ≡ 10) × (k₀ ≤ 10) × (k ≤ k₀) × (set .count + 16 * k ≤ 16 * k₀) × Counted set (heldKeys signers slots (drop k (take k₀ places)))
 
 abbrev μ-loop : tie.MeasureT-loop
 μ-loop signers slots places set₀ k₀ set k = k
 
 loop-holds : tie.Need-loop-holds Inv-loop μ-loop
-unfolding heldKeys inSet
+unfolding heldKeys member
 loop-holds c =
     let o = c .before .before .before .args .o in (
       signers-10 (c .before .before .before .args .g) _ (c .before .before .before .good .1 .0),
@@ -29,8 +30,7 @@ loop-holds c =
       omega arith,
       omega arith,
       omega arith,
-      record { rises = tt; counted = refl },
-      rw (none-left (o .slots) (o .count)),
+      rw (none-left (o .slots) (o .count)) (record { rises = tt; counted = refl; same = λ x. refl }),
     )
 
 sub-k : tie.Need-sub-k Inv-loop μ-loop
@@ -81,7 +81,7 @@ add-entry-requires c κs =
     let start = c .before .before .before .before .before .before .before .before .before in
     let o = start .args .o in
     let live = live-entry (start .args .g) (o .slots) (o .count) (v .k - 1) (signerSlot 0 0) (start .pre .same) (omega arith) (omega arith) (omega arith) (start .pre .sets) noEntry in
-    (live, omega arith, v .inv .5)
+    (live, omega arith)
 
 loop-less : tie.Need-loop-less Inv-loop μ-loop
 loop-less c = omega arith
@@ -93,7 +93,7 @@ loop-again c =
     let o = a .o in
     let up : v .k - 1 + 1 ≡ v .k = omega arith in
     let step = rw up at (held-next (a .g .signers) (o .slots) (o .count) (v .k - 1) (signerSlot 0 0) (omega arith) (omega arith) (a .row .slots) (c .before .before .if1 .taken)) in
-    (v .inv .0, v .inv .1, omega arith, omega arith, omega (arith, c .add-entry .ensures .2), c .add-entry .ensures .1, c .add-entry .ensures .0 ∙ rw (v .inv .6) (sym step))
+    (v .inv .0, v .inv .1, omega arith, omega arith, omega (arith, c .add-entry .ensures .1), rw step (c .add-entry .ensures .0 _ (v .inv .5)))
 
 loop-less-2 : tie.Need-loop-less-2 Inv-loop μ-loop
 loop-less-2 c = omega arith
@@ -105,14 +105,15 @@ loop-again-2 c =
     let o = a .o in
     let up : v .k - 1 + 1 ≡ v .k = omega arith in
     let step = rw up at (held-over (a .g .signers) (o .slots) (o .count) (v .k - 1) (signerSlot 0 0) (omega arith) (omega arith) (a .row .slots) (c .if1 .left)) in
-    (v .inv .0, v .inv .1, omega arith, omega arith, omega arith, v .inv .5, v .inv .6 ∙ sym step)
+    (v .inv .0, v .inv .1, omega arith, omega arith, omega arith, rw step (v .inv .5))
 
 returns : tie.Need-returns Inv-loop μ-loop
 unfolding ordered
 returns c =
     let v = c .before .loop in
+    let a = c .before .before .before .before .before .args in
     let z : v .k ≡ 0 = omega arith in
-    sym (v .inv .5 .counted) ∙ ap length (rw z at (v .inv .6))
+    v .inv .5 .counted ∙ ap (λ (k : ℕ). length (heldKeys (a .g .signers) (a .row .slots) (drop k (take (a .o .count) (a .o .slots))))) z
 
 pub held-keys-spec : {M : Type 1} → statement M
 held-keys-spec =

@@ -1,0 +1,2 @@
+-- What the keys of the signers come to.
+pub mod Sets

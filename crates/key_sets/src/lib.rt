@@ -1,0 +1,2 @@
+// Key sets in ascending order.
+pub mod keys;

@@ -1,0 +1,3 @@
+-- Laws of what is written.
+-- Assumes nothing.
+pub mod Plain
