@@ -1,0 +1,90 @@
+//! What the crate's writers do not let a host say: a short buffer, a type above 3, places outside the source, and what stays past a packet.
+
+use super::*;
+use crate::limits::ANSWER_LENGTH;
+
+const FILLED: u8 = 0xaa;
+const HEAD: RcHead =
+    RcHead { dkg_id: 1, sign_id: 2, sign_iter_id: 3, signature_type: 3, reserved: [FILLED; 7], root: [9; 32] };
+const SOURCE: [u8; 66] = [7; 66];
+
+/// One response whose lists are all the same one; so, too, one signer.
+fn responses(list: RcPlace) -> RcResponses {
+    let one = RcResponse { message: list, key_ids: list, nonces: list, ..Default::default() };
+    RcResponses { places: [one; 10], count: 1 }
+}
+
+fn signers(list: RcPlace) -> RcJobPlaces {
+    let one = RcJobPlace { key_ids: list, nonces: list, shares: list, ..Default::default() };
+    RcJobPlaces { places: [one; 10], count: 1 }
+}
+
+const ONE: RcPlace = RcPlace { at: 0, count: 1 };
+const IDS: RcSignerIds = RcSignerIds { ids: [5; 10], count: 2 };
+
+/// Those that have a type come first.
+const WRITERS: [fn(&mut [u8], RcHead) -> RcWritten; 8] = [
+    |out, head| write_nonce_request(out, head, b"pay"),
+    |out, head| write_signature_share_request(out, head, b"pay", &SOURCE, responses(ONE)),
+    |out, head| write_job(out, head, b"pay", &SOURCE, signers(ONE)),
+    |out, _| write_dkg_begin(out, 7),
+    |out, _| write_dkg_signer(out, 3, 7),
+    |out, _| write_dkg_coordinator(out, 7),
+    |out, _| write_nonce_timeout(out, IDS, IDS),
+    |out, _| write_insufficient_signers(out, IDS),
+];
+
+fn refused(w: RcWritten, number: u32) {
+    assert_eq!(w, RcWritten { refusal: number, ..Default::default() });
+}
+
+#[test]
+fn a_buffer_of_19_231_and_one_of_no_bytes_are_refused_with_7() {
+    for length in [ANSWER_LENGTH - 1, 0] {
+        let mut out = vec![FILLED; length];
+        WRITERS.iter().for_each(|write| refused(write(&mut out, HEAD), 7));
+        assert_eq!(out, vec![FILLED; length], "a refusal writes nothing");
+    }
+}
+
+#[test]
+fn a_type_of_4_is_refused_with_8_before_all() {
+    let head = RcHead { signature_type: 4, ..HEAD };
+    for length in [ANSWER_LENGTH, 0] {
+        let mut out = vec![FILLED; length];
+        WRITERS[..3].iter().for_each(|write| refused(write(&mut out, head), 8));
+        assert_eq!(out, vec![FILLED; length], "a refusal writes nothing");
+    }
+}
+
+#[test]
+fn nothing_past_the_packet_is_written_and_reserved_bytes_are_not_looked_at() {
+    let lengths = [32 + 16 + 3 + 32, 32 + 24 + 3 + 32 + 56 + 1 + 4 + 66, 32 + 40 + 3 + 32 + 4 + 66 + 36];
+    for (write, length) in WRITERS.iter().zip(lengths.into_iter().chain([32, 32, 32, 32 + 16 + 16, 32 + 8 + 8])) {
+        let (mut out, mut again) = (vec![FILLED; ANSWER_LENGTH + 1], vec![0; ANSWER_LENGTH]);
+        assert_eq!(write(&mut out, HEAD), RcWritten { length: length as u64, ..Default::default() });
+        assert!(out[length..].iter().all(|byte| *byte == FILLED));
+        write(&mut again, RcHead { reserved: [0; 7], ..HEAD });
+        assert_eq!(again[..length], out[..length]);
+    }
+}
+
+#[test]
+fn a_place_outside_the_source_is_refused_with_9() {
+    let outside = [(1, 1), (66, 1), (67, 0), (0, 2), (u64::MAX, 1), (0, u64::MAX), (0, u64::MAX / 66 + 2)];
+    for (at, count) in outside {
+        let mut out = vec![FILLED; ANSWER_LENGTH];
+        let list = RcPlace { at, count };
+        refused(write_signature_share_request(&mut out, HEAD, b"pay", &SOURCE, responses(list)), 9);
+        refused(write_job(&mut out, HEAD, b"pay", &SOURCE, signers(list)), 9);
+        assert_eq!(out, vec![FILLED; ANSWER_LENGTH], "a refusal writes nothing");
+    }
+}
+
+#[test]
+fn places_that_do_not_count_are_not_looked_at() {
+    let mut given = responses(RcPlace { at: u64::MAX, count: u64::MAX });
+    given.places[0] = responses(RcPlace { at: 66, count: 0 }).places[0];
+    let mut out = vec![FILLED; ANSWER_LENGTH];
+    assert_eq!(write_signature_share_request(&mut out, HEAD, b"pay", &SOURCE, given).refusal, 0);
+}

@@ -1,0 +1,61 @@
+//! Nonce responses that are passed over without a word, and one that is not: an empty key set is a key set.
+
+mod common;
+use common::*;
+use roundcabinet::*;
+
+/// 01's worked configuration with two signers more: 3 has no key set, and 4 an empty one. All four keys are wanted.
+fn config() -> Config {
+    worked().sign_threshold(4).signer(Signer::without_keys(SignerId(3))).signer(with_keys(4, &[]))
+}
+
+/// Who has answered, as a nonce timeout tells it.
+fn answered(c: &mut Coordinator) -> Vec<SignerId> {
+    match c.process_timeout(111) {
+        Ok(Answer::NonceTimeout { waiters, malicious }) if malicious.is_empty() => waiters,
+        Err(Refusal::NoRecord) => vec![],
+        other => panic!("{other:?}"),
+    }
+}
+
+#[test]
+fn who_is_passed_over() {
+    let (mut c, request) = started(&config());
+    let passed_over = [
+        ("not configured", answers_with(&request, 9, &[])),
+        ("without a key set", answers_with(&request, 3, &[])),
+        ("a key of an empty set", answers_with(&request, 4, &[4])),
+        ("a key too few", answers_with(&request, 1, &[2])),
+        ("a key too many", answers_with(&request, 0, &[1, 2])),
+    ];
+    for (why, packet) in passed_over {
+        assert_eq!(c.process(101, Verdict::Good, &packet), Ok(Answer::Nothing), "{why}");
+        assert_eq!(answered(&mut c), [], "{why}");
+    }
+    assert_eq!(c.process(101, Verdict::Good, &answers_with(&request, 4, &[])), Ok(Answer::Nothing));
+    assert_eq!(answered(&mut c), [SignerId(4)]);
+}
+
+#[test]
+fn who_did_not_end_key_generation() {
+    let mut c = ready(&config());
+    c.take_results(DKG, &[SignerId(1)]).unwrap();
+    let request = NonceRequest::read(&c.start_signing_round(100, b"a", SignatureType::Frost, None).unwrap()).unwrap();
+    for signer in [0, 1, 2] {
+        assert_eq!(c.process(101, Verdict::Good, &answers(&request, signer)), Ok(Answer::Nothing));
+    }
+    assert_eq!(answered(&mut c), [SignerId(1)]);
+}
+
+/// The number of nonces is compared with nothing, and a second response to one message does nothing.
+#[test]
+fn what_is_not_compared() {
+    let (mut c, request) = started(&worked());
+    let none = signer::answer(&request, SignerId(0), &keys(&[1]), &[]);
+    assert_eq!(c.process(101, Verdict::Good, &none), Ok(Answer::Nothing));
+    assert_eq!(c.process(101, Verdict::Good, &answers(&request, 0)), Ok(Answer::Nothing));
+    let five = signer::answer(&request, SignerId(1), &keys(&[2, 3]), &[NONCE; 5]);
+    let sent = c.process(101, Verdict::Good, &five).unwrap();
+    let sent = ShareRequest::read(sent.packet().unwrap()).unwrap();
+    assert_eq!(sent.responses.iter().map(|r| r.nonces.len()).collect::<Vec<_>>(), [0, 5]);
+}
