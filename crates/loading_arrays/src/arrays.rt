@@ -5,6 +5,7 @@ ghost use lib.ListN.{length};
 ghost use Rattle.layout.specs.Limits.{listLimit, signerLimit, recordLimit};
 ghost use Rattle.state_bytes.specs.Places.{signerBytes, slotBytes, rowBytes, shareBytes};
 ghost use Rattle.state_bytes.specs.Loaded.{flagAt, eachAt, keyAt, signerAt, slotAt, rowAt, recordsAt, sharesAt, marksAt};
+use layout::Ids;
 use layout::KeyId;
 use layout::LIST_LIMIT;
 use layout::RECORD_LIMIT;
@@ -52,8 +53,14 @@ pub fn signers_at(s: &[u8], at: usize) -> [SignerEntry; SIGNER_LIMIT]
     requires { ⌜ at ≤ 4096 ⌝ }
     ensures { λ r. ⌜ r ≡ eachAt signerAt signerBytes (now (s .entry)) at signerLimit ⌝ }
 {
-    let first = signer_at(s, at);
-    let mut signers = [first; SIGNER_LIMIT];
+    let ids = [KeyId(0); LIST_LIMIT];
+    let keys = KeyIds { ids, count: 0 };
+    let none = SignerEntry {
+        id: SignerId(0),
+        has_keys: false,
+        keys,
+    };
+    let mut signers = [none; SIGNER_LIMIT];
     let mut i: usize = 0;
     while i < SIGNER_LIMIT {
         let e = signer_at(s, at + SIGNER_BYTES * i);
@@ -67,8 +74,18 @@ fn slots_at(s: &[u8], at: usize) -> [ResponseSlot; SIGNER_LIMIT]
     requires { ⌜ at ≤ 7000 ⌝ }
     ensures { λ r. ⌜ r ≡ eachAt slotAt slotBytes (now (s .entry)) at signerLimit ⌝ }
 {
-    let first = fields::slot_at(s, at);
-    let mut slots = [first; SIGNER_LIMIT];
+    let none = ResponseSlot {
+        held: false,
+        waits: false,
+        ids: Ids {
+            dkg_id: 0,
+            sign_id: 0,
+            sign_iter_id: 0,
+        },
+        key_ids: 0,
+        nonces: 0,
+    };
+    let mut slots = [none; SIGNER_LIMIT];
     let mut i: usize = 0;
     while i < SIGNER_LIMIT {
         let slot = fields::slot_at(s, at + SLOT_BYTES * i);
@@ -91,8 +108,20 @@ fn rows_at(s: &[u8], at: usize) -> [SignRoundInfo; RECORD_LIMIT]
     requires { ⌜ at ≤ 4096 ⌝ }
     ensures { λ r. ⌜ r ≡ eachAt rowAt rowBytes (now (s .entry)) at recordLimit ⌝ }
 {
-    let first = row_at(s, at);
-    let mut rows = [first; RECORD_LIMIT];
+    let none = ResponseSlot {
+        held: false,
+        waits: false,
+        ids: Ids {
+            dkg_id: 0,
+            sign_id: 0,
+            sign_iter_id: 0,
+        },
+        key_ids: 0,
+        nonces: 0,
+    };
+    let slots = [none; SIGNER_LIMIT];
+    let empty = SignRoundInfo { message: 0, slots };
+    let mut rows = [empty; RECORD_LIMIT];
     let mut i: usize = 0;
     while i < RECORD_LIMIT {
         let row = row_at(s, at + ROW_BYTES * i);
@@ -130,8 +159,12 @@ pub fn shares_at(s: &[u8], at: usize) -> [ShareSlot; SIGNER_LIMIT]
     requires { ⌜ at + 250 ≤ length (now s) ⌝ }
     ensures { λ r. ⌜ r ≡ eachAt sharesAt shareBytes (now (s .entry)) at signerLimit ⌝ }
 {
-    let first = share_slot_at(s, at);
-    let mut slots = [first; SIGNER_LIMIT];
+    let none = ShareSlot {
+        held: false,
+        count: 0,
+        key_counts: [0; LIST_LIMIT],
+    };
+    let mut slots = [none; SIGNER_LIMIT];
     let mut i: usize = 0;
     while i < SIGNER_LIMIT {
         let slot = share_slot_at(s, at + SHARE_BYTES * i);

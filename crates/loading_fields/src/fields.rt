@@ -61,13 +61,19 @@ pub fn slot_at(s: &[u8], at: usize) -> ResponseSlot
 {
     let held = flag_at(s, at);
     let waits = flag_at(s, at + 1);
-    let ids = ids_at(s, at + 2);
+    let dkg_id = wire::u64_at(s, at + 2);
+    let sign_id = wire::u64_at(s, at + 10);
+    let sign_iter_id = wire::u64_at(s, at + 18);
     let key_ids = wire::u64_at(s, at + 26) as usize;
     let nonces = wire::u64_at(s, at + 34) as usize;
     ResponseSlot {
         held,
         waits,
-        ids,
+        ids: Ids {
+            dkg_id,
+            sign_id,
+            sign_iter_id,
+        },
         key_ids,
         nonces,
     }

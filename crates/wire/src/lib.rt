@@ -190,16 +190,24 @@ fn still(so_far: bool, x: u8, y: u8) -> bool
     if x == y { so_far } else { false }
 }
 
-// Whether a and b hold the same bytes. Each byte is looked at, so that the loop has one end and is compiled to wide comparisons.
+// Whether a and b hold the same bytes. The last are looked at first: most that differ do so there. Then each byte is looked at, so that the loop has
+// one end and is compiled to wide comparisons.
 pub fn same(a: &[u8], b: &[u8]) -> bool
     ensures { λ r. ⌜ r ≡ sameBytes (now (a .entry)) (now (b .entry)) ⌝ }
 {
     if a.len() != b.len() {
         return false;
     }
+    let n = a.len();
+    if n == 0 {
+        return true;
+    }
+    if a[n - 1] != b[n - 1] {
+        return false;
+    }
     let mut so_far = true;
     let mut i = 0;
-    while i < a.len() {
+    while i < n {
         so_far = still(so_far, a[i], b[i]);
         i += 1;
     }

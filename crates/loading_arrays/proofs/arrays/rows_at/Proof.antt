@@ -17,9 +17,6 @@ Inv-loop s at rows₀ i₀ rows i = Filled rowAt rowBytes s at recordLimit rows 
 abbrev μ-loop : tie.MeasureT-loop
 μ-loop s at rows₀ i₀ rows i = recordLimit - i
 
-row-at-requires : tie.Need-row-at-requires Inv-loop μ-loop
-row-at-requires c κs = search needs
-
 loop-holds : tie.Need-loop-holds Inv-loop μ-loop
 loop-holds c = none-yet refl
 
@@ -29,8 +26,8 @@ mul-row-at c = omega arith
 add-row-at : tie.Need-add-row-at Inv-loop μ-loop
 add-row-at c = omega arith
 
-row-at-requires-2 : tie.Need-row-at-requires-2 Inv-loop μ-loop
-row-at-requires-2 c κs = search needs
+row-at-requires : tie.Need-row-at-requires Inv-loop μ-loop
+row-at-requires c κs = search needs
 
 mul-rows : tie.Need-mul-rows Inv-loop μ-loop
 mul-rows c = omega arith
@@ -45,7 +42,7 @@ loop-less : tie.Need-loop-less Inv-loop μ-loop
 loop-less c = omega arith
 
 loop-again : tie.Need-loop-again Inv-loop μ-loop
-loop-again c = one-more (c .row-at2 .result) (omega arith) (c .row-at2 .ensures) (c .before .before .loop .inv)
+loop-again c = one-more (c .row-at .result) (omega arith) (c .row-at .ensures) (c .before .before .loop .inv)
 
 returns : tie.Need-returns Inv-loop μ-loop
 returns c = all-of-it (omega arith) (c .before .loop .inv)
@@ -56,11 +53,10 @@ rows-at-spec =
     (tie.spec
     Inv-loop
     μ-loop
-    row-at-requires
     loop-holds
     mul-row-at
     add-row-at
-    row-at-requires-2
+    row-at-requires
     mul-rows
     array-set-from-rows
     add-i

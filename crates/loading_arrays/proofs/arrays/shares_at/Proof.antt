@@ -17,9 +17,6 @@ Inv-loop s at slots₀ i₀ slots i = Filled sharesAt shareBytes s at signerLimi
 abbrev μ-loop : tie.MeasureT-loop
 μ-loop s at slots₀ i₀ slots i = signerLimit - i
 
-share-slot-at-requires : tie.Need-share-slot-at-requires Inv-loop μ-loop
-share-slot-at-requires c κs = search needs
-
 loop-holds : tie.Need-loop-holds Inv-loop μ-loop
 loop-holds c = none-yet refl
 
@@ -29,8 +26,8 @@ mul-share-slot-at c = omega arith
 add-share-slot-at : tie.Need-add-share-slot-at Inv-loop μ-loop
 add-share-slot-at c = omega arith
 
-share-slot-at-requires-2 : tie.Need-share-slot-at-requires-2 Inv-loop μ-loop
-share-slot-at-requires-2 c κs = search needs
+share-slot-at-requires : tie.Need-share-slot-at-requires Inv-loop μ-loop
+share-slot-at-requires c κs = search needs
 
 mul-slots : tie.Need-mul-slots Inv-loop μ-loop
 mul-slots c = omega arith
@@ -45,7 +42,7 @@ loop-less : tie.Need-loop-less Inv-loop μ-loop
 loop-less c = omega arith
 
 loop-again : tie.Need-loop-again Inv-loop μ-loop
-loop-again c = one-more (c .share-slot-at2 .result) (omega arith) (c .share-slot-at2 .ensures) (c .before .before .loop .inv)
+loop-again c = one-more (c .share-slot-at .result) (omega arith) (c .share-slot-at .ensures) (c .before .before .loop .inv)
 
 returns : tie.Need-returns Inv-loop μ-loop
 returns c = all-of-it (omega arith) (c .before .loop .inv)
@@ -56,11 +53,10 @@ shares-at-spec =
     (tie.spec
     Inv-loop
     μ-loop
-    share-slot-at-requires
     loop-holds
     mul-share-slot-at
     add-share-slot-at
-    share-slot-at-requires-2
+    share-slot-at-requires
     mul-slots
     array-set-from-slots
     add-i

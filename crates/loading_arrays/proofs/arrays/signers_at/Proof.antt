@@ -17,9 +17,6 @@ Inv-loop s at signers₀ i₀ signers i = Filled signerAt signerBytes s at signe
 abbrev μ-loop : tie.MeasureT-loop
 μ-loop s at signers₀ i₀ signers i = signerLimit - i
 
-signer-at-requires : tie.Need-signer-at-requires Inv-loop μ-loop
-signer-at-requires c κs = search needs
-
 loop-holds : tie.Need-loop-holds Inv-loop μ-loop
 loop-holds c = none-yet refl
 
@@ -29,8 +26,8 @@ mul-signer-at c = omega arith
 add-signer-at : tie.Need-add-signer-at Inv-loop μ-loop
 add-signer-at c = omega arith
 
-signer-at-requires-2 : tie.Need-signer-at-requires-2 Inv-loop μ-loop
-signer-at-requires-2 c κs = search needs
+signer-at-requires : tie.Need-signer-at-requires Inv-loop μ-loop
+signer-at-requires c κs = search needs
 
 mul-signers : tie.Need-mul-signers Inv-loop μ-loop
 mul-signers c = omega arith
@@ -45,7 +42,7 @@ loop-less : tie.Need-loop-less Inv-loop μ-loop
 loop-less c = omega arith
 
 loop-again : tie.Need-loop-again Inv-loop μ-loop
-loop-again c = one-more (c .signer-at2 .result) (omega arith) (c .signer-at2 .ensures) (c .before .before .loop .inv)
+loop-again c = one-more (c .signer-at .result) (omega arith) (c .signer-at .ensures) (c .before .before .loop .inv)
 
 returns : tie.Need-returns Inv-loop μ-loop
 returns c = all-of-it (omega arith) (c .before .loop .inv)
@@ -56,11 +53,10 @@ signers-at-spec =
     (tie.spec
     Inv-loop
     μ-loop
-    signer-at-requires
     loop-holds
     mul-signer-at
     add-signer-at
-    signer-at-requires-2
+    signer-at-requires
     mul-signers
     array-set-from-signers
     add-i

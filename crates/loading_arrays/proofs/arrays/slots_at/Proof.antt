@@ -17,9 +17,6 @@ Inv-loop s at slots₀ i₀ slots i = Filled slotAt slotBytes s at signerLimit s
 abbrev μ-loop : tie.MeasureT-loop
 μ-loop s at slots₀ i₀ slots i = signerLimit - i
 
-slot-at-requires : tie.Need-slot-at-requires Inv-loop μ-loop
-slot-at-requires c κs = search needs
-
 loop-holds : tie.Need-loop-holds Inv-loop μ-loop
 loop-holds c = none-yet refl
 
@@ -29,8 +26,8 @@ mul-slot-at c = omega arith
 add-slot-at : tie.Need-add-slot-at Inv-loop μ-loop
 add-slot-at c = omega arith
 
-slot-at-requires-2 : tie.Need-slot-at-requires-2 Inv-loop μ-loop
-slot-at-requires-2 c κs = search needs
+slot-at-requires : tie.Need-slot-at-requires Inv-loop μ-loop
+slot-at-requires c κs = search needs
 
 mul-slots : tie.Need-mul-slots Inv-loop μ-loop
 mul-slots c = omega arith
@@ -45,7 +42,7 @@ loop-less : tie.Need-loop-less Inv-loop μ-loop
 loop-less c = omega arith
 
 loop-again : tie.Need-loop-again Inv-loop μ-loop
-loop-again c = one-more (c .slot-at2 .result) (omega arith) (c .slot-at2 .ensures) (c .before .before .loop .inv)
+loop-again c = one-more (c .slot-at .result) (omega arith) (c .slot-at .ensures) (c .before .before .loop .inv)
 
 returns : tie.Need-returns Inv-loop μ-loop
 returns c = all-of-it (omega arith) (c .before .loop .inv)
@@ -56,11 +53,10 @@ slots-at-spec =
     (tie.spec
     Inv-loop
     μ-loop
-    slot-at-requires
     loop-holds
     mul-slot-at
     add-slot-at
-    slot-at-requires-2
+    slot-at-requires
     mul-slots
     array-set-from-slots
     add-i
