@@ -4,4 +4,5 @@ pub mod Unsaved
 pub mod Formed
 pub mod Calls
 pub mod Demands
+pub mod Changes
 pub mod Contracts

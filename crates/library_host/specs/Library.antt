@@ -11,8 +11,9 @@ use Rattle.step_definition.specs.Run.{Seen, maliciousIn}
 use Rattle.state_bytes.specs.Places.{stateLength}
 use Rattle.state_bytes.specs.Loaded.{isSaved, loaded}
 use Rattle.host.specs.Host.{HostRequest, HostCall, Host, commission, setKey, takeResults, canMove, start, receive}
-use Rattle.host.specs.Host.{processTimeout, aggregated, reset, turnOf, viewed}
+use Rattle.host.specs.Host.{processTimeout, aggregated, reset, turnOf, viewed, Makeable}
 use Rattle.host.specs.Demand3.{Written, later}
+use Rattle.configuration.specs.declared.new_config.NewConfig.{NewConfig}
 use Rattle.interface.specs.declared.answers.RcAnswer.{RcAnswer}
 use Rattle.interface.specs.Answers.{told}
 use Rattle.interface.specs.Called.{Called}
@@ -65,3 +66,12 @@ unfoldable pub firstShareRequestIn : List Seen → Option Written
 firstShareRequestIn [] = none
 firstShareRequestIn (s ∷ rest) =
     cond (eqb (getD (s .answer .bytes) 0 0) 3) (some (record { call = 0; bytes = s .answer .bytes })) (later (firstShareRequestIn rest))
+
+-- where a watch begins: at a commissioning, or at a call that writes a nonce request
+pub data LibraryBegins : Buffers → Type 0 where
+  commissioning :
+      (k : HostCall) (b c : Buffers) (a : A.Answer) (g : NewConfig) → LibraryCall k b a c → k .request ≡ commission g
+      → Makeable (length (b .store)) k → LibraryBegins c
+  opening :
+      (k : HostCall) (b c : Buffers) (a : A.Answer) → LibraryCall k b a c → getD (a .bytes) 0 0 ≡ 1
+      → Makeable (length (b .store)) k → LibraryBegins c

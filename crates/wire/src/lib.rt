@@ -155,7 +155,8 @@ fn smaller(a: usize, b: usize) -> usize
     if a < b { a } else { b }
 }
 
-// Writes the bytes of src at `at`, as many of them as there is room for. How many is found first, so that the loop has one end and is compiled to wide moves.
+// Writes the bytes of src at `at`, as many of them as there is room for. How many is found first, so that the loop has one end and is
+// compiled to wide moves.
 pub fn copy(out: &mut [u8], at: usize, src: &[u8])
     ensures { λ _. ⌜ now (out .exit) ≡ put (now (out .entry)) at (now (src .entry)) ⌝ }
 {
@@ -190,8 +191,8 @@ fn still(so_far: bool, x: u8, y: u8) -> bool
     if x == y { so_far } else { false }
 }
 
-// Whether a and b hold the same bytes. The last are looked at first: most that differ do so there. Then each byte is looked at, so that the loop has
-// one end and is compiled to wide comparisons.
+// Whether a and b hold the same bytes. The last are looked at first: most that differ do so there. Then each byte is looked at, so
+// that the loop has one end and is compiled to wide comparisons.
 pub fn same(a: &[u8], b: &[u8]) -> bool
     ensures { λ r. ⌜ r ≡ sameBytes (now (a .entry)) (now (b .entry)) ⌝ }
 {

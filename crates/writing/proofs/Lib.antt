@@ -1,3 +1,4 @@
 -- Laws of what is written.
 -- Assumes nothing.
 pub mod Plain
+pub mod ReadBack
