@@ -76,7 +76,8 @@ extern "C" {
 #define RC_REFUSED_JOB_OUT 5            /* a job is out: answer it or reset first */
 #define RC_REFUSED_NO_JOB 6             /* no job is out */
 #define RC_REFUSED_ROOM 7               /* out is shorter than RC_ANSWER_LENGTH */
-#define RC_REFUSED_LAYOUT 8             /* the packet is not laid out as 01 says; also a signature type above 3, a state above 14 */
+#define RC_REFUSED_LAYOUT 8             /* the packet is not laid out as 01 says; also a signature type above 3, RC_TAPROOT_ROOT with
+                                         * a root that has not 32 bytes, a state above 14 */
 #define RC_REFUSED_LIMIT 9              /* a message, a list or the nested responses are over 01's limits */
 #define RC_REFUSED_GROUP_KEY 10         /* no group key held. Idle: the iteration is changed. Gathering: response recorded, message replaced */
 #define RC_REFUSED_MOVE 11              /* the state does not allow a start. Message and sign id ARE changed: see rc_start_signing_round */
@@ -152,7 +153,8 @@ rc_answer rc_take_results(uint8_t *state, size_t state_length, const uint8_t *st
                           size_t ended_count);
 
 /* Starts a signing round: RC_PACKET, a nonce request, in out. sign_id counts where sign_id_given is not 0; otherwise it is the last one plus 1. root:
- * 32 bytes, which count where the type is RC_TAPROOT_ROOT. Asked 4, 5, 7, 9, 10, 11; a type above 3 is refused with 8 before.
+ * 32 bytes where the type is RC_TAPROOT_ROOT; beside another type it isn't looked at, whatever its length. Asked 4, 5, 7, 9, 10, 11; a type
+ * above 3, or RC_TAPROOT_ROOT with a root of another length, is refused with 8 before.
  *
  * WARNING. A start that is refused with 11 has already replaced message and sign id, as fire.rs does it. While shares are gathered, a start of
  * another type makes signers that answer in time look silent: their shares get 17, and the share timeout strikes them. A start of the same type (and
@@ -187,7 +189,8 @@ rc_answer rc_reset(uint8_t *state, size_t state_length, const uint8_t *store, si
 
 /* Whether the coordinator may move to a state: RC_RESULT, first 1 yes, 0 no. next: 0 to 14 in the Rust's order (0 Idle, 11 NonceRequest, 12 NonceGather,
  * 13 SigShareRequest, 14 SigShareGather). With 11 it says whether a start would get 11; with 1 (DkgPublicDistribute) whether the coordinator is idle.
- * Asked 4, 5; a state above 14 or a type above 3 is refused with 8 before. */
+ * Type and root are those of a signing state (11 to 14). Asked 4, 5; a state above 14, a type above 3, or RC_TAPROOT_ROOT with a root that has
+ * not 32 bytes, is refused with 8 before, the type whatever the state. */
 rc_answer rc_can_move_to(uint8_t *state, size_t state_length, const uint8_t *store, size_t store_length, uint8_t next, uint8_t signature_type,
                          const uint8_t *root, size_t root_length);
 

@@ -1,9 +1,9 @@
--- What the library's calls give where a host can say more than 01's calls take: a type above 3, a state above 14.
+-- What the library's calls give where a host can say more than 01's calls take: a type above 3, a root of another length, a state above 14.
 use Prim.Native.Nat.{ℕ}
-use mathlib.Core.Bool.{cond, _&&_}
+use mathlib.Core.Bool.{Bool, cond, not, _&&_, _||_}
 use mathlib.Core.List.{List}
 use lib.Dec.{eqb, leb}
-use lib.ListN.{replicate}
+use lib.ListN.{length, replicate}
 use Rattle.wire.specs.Bytes.{put}
 use Rattle.layout.specs.Types.{typeOf, rootLength}
 use Rattle.state.specs.declared.fields.Coordinator.{Coordinator}
@@ -29,13 +29,18 @@ rootGiven root = put (replicate (rootLength lastType) 0) 0 root
 unfoldable pub signIdGiven : ℕ → ℕ → SignId
 signIdGiven given n = cond (eqb given 0) Next (Given n)
 
--- a type above 3 is refused with 8, before anything else
+-- whether C says a type that 01 has: at most 3, and with the last one a root of 32 bytes; beside other types the root isn't looked at
+unfoldable pub typeSaid : ℕ → List ℕ → Bool
+typeSaid n root = leb n lastType && (not (eqb n lastType) || eqb (length root) (rootLength lastType))
+
+-- a type that isn't said is refused with 8, before anything else
 unfoldable pub startedTurn : ℕ → List ℕ → ℕ → List ℕ → SignId → ℕ → Coordinator → List ℕ → Turn
 startedTurn clock message n root id room s store =
-    cond (leb n lastType)
+    cond (typeSaid n root)
     (startTurn clock message (record { «signature_type» = typeOf n; root = rootGiven root; «sign_id» = id }) room s store)
     (errorTurn 8 s store)
 
--- so is a state above 14
+-- so is a state above 14; type and root are asked whatever the state
 unfoldable pub movedTurn : ℕ → ℕ → List ℕ → Coordinator → List ℕ → Turn
-movedTurn next n root s store = cond (leb next lastState && leb n lastType) (moveTurn (stateFor next (typeOf n)) (rootGiven root) s store) (errorTurn 8 s store)
+movedTurn next n root s store =
+    cond (leb next lastState && typeSaid n root) (moveTurn (stateFor next (typeOf n)) (rootGiven root) s store) (errorTurn 8 s store)

@@ -5,7 +5,7 @@ ghost use lib.ListN.{length};
 ghost use Rattle.state.specs.Turns.{Did};
 ghost use Rattle.state_bytes.specs.Loaded.{isSaved, loaded};
 ghost use Rattle.interface.specs.Called.{Called};
-ghost use Rattle.starting.specs.Given.{rootGiven, signIdGiven, startedTurn, movedTurn};
+ghost use Rattle.starting.specs.Given.{rootGiven, signIdGiven, typeSaid, startedTurn, movedTurn};
 use interface::answers::RcAnswer;
 use interface::kept;
 use interface::loads;
@@ -41,7 +41,20 @@ fn sign_id_of(given: u8, sign_id: u64) -> SignId
     }
 }
 
-// A type above 3 is refused with 8.
+// A type at most 3, and with the last one a root of 32 bytes.
+fn type_said(n: u8, root: &[u8]) -> bool
+    ensures { λ r. ⌜ r ≡ typeSaid n (now (root .entry)) ⌝ }
+{
+    if LAST_TYPE < n {
+        return false;
+    }
+    if n == LAST_TYPE {
+        return root.len() == ROOT_LENGTH;
+    }
+    true
+}
+
+// A type above 3, or the last one with a root of another length, is refused with 8.
 fn start(
     s: Coordinator,
     store: &[u8],
@@ -56,7 +69,7 @@ fn start(
         (length (now (out .entry))) s (now (store .entry)))
         (now (out .entry)) d (now (store .entry)) (now (out .exit)) ⌝ }
 {
-    if LAST_TYPE < signature_type {
+    if !type_said(signature_type, root) {
         return answers::refused(s, 8);
     }
     let t = layout::signature_type(signature_type);
@@ -93,14 +106,14 @@ pub fn start_signing_round(
     kept::keep(state, from.saved, d)
 }
 
-// A state above 14 or a type above 3 is refused with 8.
+// A state above 14, a type above 3, or the last type with a root of another length, is refused with 8.
 fn moves(s: Coordinator, store: &[u8], next: u8, signature_type: u8, root: &[u8]) -> Done
     ensures { λ d. ⌜ Did (movedTurn next «signature_type» (now (root .entry)) s (now (store .entry))) [] d (now (store .entry)) [] ⌝ }
 {
     if LAST_STATE < next {
         return answers::refused(s, 8);
     }
-    if LAST_TYPE < signature_type {
+    if !type_said(signature_type, root) {
         return answers::refused(s, 8);
     }
     let t = layout::signature_type(signature_type);

@@ -2,6 +2,7 @@
 -- Assumes nothing.
 use borrow.Author.Needs.{needs}
 use borrow.Author.Tests.{le-leb, lt-leb}
+use Rattle.frame.proofs.Flags.{says-no, says-yes}
 use Rattle.state.proofs.Turns.{error-did}
 use Rattle.starting.specs.Given.{movedTurn}
 use Rattle.starting.proofs.moves.Statement.{statement}
@@ -14,13 +15,17 @@ returns : tie.Need-returns
 unfolding movedTurn
 returns c = rw (lt-leb _ _ (c .before .if1 .taken)) (error-did _ _ (c .refused .ensures))
 
+type-said-requires : tie.Need-type-said-requires
+type-said-requires c κs = search needs
+
 refused-requires-2 : tie.Need-refused-requires-2
 refused-requires-2 c κs = search needs
 
 returns-2 : tie.Need-returns-2
 unfolding movedTurn
 returns-2 c =
-    rw (le-leb _ _ (c .before .before .if1 .left), lt-leb _ _ (c .before .if2 .taken)) (error-did _ _ (c .refused2 .ensures))
+    rw (le-leb _ _ (c .before .before .before .if1 .left), says-no (c .before .before .type-said .ensures) (c .before .if2 .taken))
+    (error-did _ _ (c .refused2 .ensures))
 
 signature-type-requires : tie.Need-signature-type-requires
 signature-type-requires c κs = search needs
@@ -37,8 +42,11 @@ can-move-to-requires c κs = search needs
 returns-3 : tie.Need-returns-3
 unfolding movedTurn
 returns-3 c =
-    rw (le-leb _ _ (c .before .before .before .before .before .if1 .left), le-leb _ _ (c .before .before .before .before .if2 .left), ← c .before .before .before .signature-type .ensures, ← c .before .before .state-for .ensures, ← c .before .root-given .ensures)
-    (c .can-move-to .ensures)
+    let made = c .before .before .before in
+    let asked = made .before .before in
+    rw (le-leb _ _ (asked .before .if1 .left), says-yes (asked .type-said .ensures) (made .before .if2 .left))
+    (rw (← made .signature-type .ensures, ← c .before .before .state-for .ensures, ← c .before .root-given .ensures)
+    (c .can-move-to .ensures))
 
 pub moves-spec : {M : Type 1} → statement M
 moves-spec =
@@ -46,6 +54,7 @@ moves-spec =
     (tie.spec
     refused-requires
     returns
+    type-said-requires
     refused-requires-2
     returns-2
     signature-type-requires

@@ -1,18 +1,22 @@
 -- Refused before, or started.
 -- Assumes nothing.
 use borrow.Author.Needs.{needs}
-use borrow.Author.Tests.{le-leb, lt-leb}
+use Rattle.frame.proofs.Flags.{says-no, says-yes}
 use Rattle.state.proofs.Turns.{error-did, answered-yes, answered-no}
 use Rattle.starting.specs.Given.{startedTurn}
 use Rattle.starting.proofs.start.Statement.{statement}
 use Rattle.starting.proofs.start.Tie as tie
+
+type-said-requires : tie.Need-type-said-requires
+type-said-requires c κs = search needs
 
 refused-requires : tie.Need-refused-requires
 refused-requires c κs = search needs
 
 returns : tie.Need-returns
 unfolding startedTurn
-returns c = answered-no _ _ _ (lt-leb _ _ (c .before .if1 .taken)) (error-did _ _ (c .refused .ensures))
+returns c =
+    answered-no _ _ _ (says-no (c .before .before .type-said .ensures) (c .before .if1 .taken)) (error-did _ _ (c .refused .ensures))
 
 signature-type-requires : tie.Need-signature-type-requires
 signature-type-requires c κs = search needs
@@ -29,13 +33,16 @@ same-length c = search needs
 returns-2 : tie.Need-returns-2
 unfolding startedTurn
 returns-2 c =
-    answered-yes _ _ _ (le-leb _ _ (c .before .before .before .before .before .before .if1 .left))
-    (rw (← c .before .before .before .before .before .signature-type .ensures, ← c .before .before .before .before .root-given .ensures) (c .before .before .start-signing-round .ensures))
+    let made = c .before .before .before .before in
+    let asked = made .before .before in
+    answered-yes _ _ _ (says-yes (asked .before .type-said .ensures) (asked .if1 .left))
+    (rw (← made .before .signature-type .ensures, ← made .root-given .ensures) (c .before .before .start-signing-round .ensures))
 
 pub start-spec : {M : Type 1} → statement M
 start-spec =
     tie.close
     (tie.spec
+    type-said-requires
     refused-requires
     returns
     signature-type-requires

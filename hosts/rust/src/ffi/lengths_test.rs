@@ -1,4 +1,5 @@
-//! Lengths that a `Coordinator` does not let a host say: 01's "Buffer 19,232, 19,231 is 7", a short state, a short store, longer buffers.
+//! Lengths that a `Coordinator` does not let a host say: 01's "Buffer 19,232, 19,231 is 7", a short state, a short store, longer buffers,
+//! a root that has not 32 bytes.
 
 use super::*;
 use crate::config::Config;
@@ -109,4 +110,24 @@ fn a_type_of_4_and_a_state_of_15_are_refused_with_8() {
     let answer = |first| RcAnswer { class_: RESULT, first, values: 1, ..RcAnswer::default() };
     assert_eq!(can_move_to(&mut b, 14, 0, &[]), answer(0));
     assert_eq!(can_move_to(&mut b, 11, 0, &[]), answer(1));
+}
+
+#[test]
+fn a_root_of_32_bytes_and_of_no_other_number() {
+    for length in [0, 1, 31, 33, 64] {
+        let root = filled(length);
+        let mut b = ready(STATE_LENGTH, STORE_LENGTH, ANSWER_LENGTH);
+        let before = b.state.clone();
+        for next in [0, 11, 14] {
+            refused(can_move_to(&mut b, next, 3, &root), 8);
+        }
+        refused(start_signing_round(&mut b, &Start { signature_type: 3, root: &root, ..START }), 8);
+        assert_eq!(b.state, before);
+        assert!(b.out.iter().all(|byte| *byte == FILLED), "a refusal writes nothing");
+        let a = start_signing_round(&mut b, &Start { signature_type: 2, root: &root, ..START });
+        assert_eq!(a, RcAnswer { class_: PACKET, length: 49, ..RcAnswer::default() }, "beside another type it isn't looked at");
+    }
+    let mut b = ready(STATE_LENGTH, STORE_LENGTH, ANSWER_LENGTH);
+    let a = start_signing_round(&mut b, &Start { signature_type: 3, root: &filled(32), ..START });
+    assert_eq!(a, RcAnswer { class_: PACKET, length: 81, ..RcAnswer::default() });
 }
