@@ -11,3 +11,4 @@ pub mod Calls
 pub mod Refines
 pub mod Demands
 pub mod Given
+pub mod Contracts

@@ -1,22 +1,32 @@
 -- The arrays of a struct that is loaded have their lengths, and its numbers are of their types, whatever the bytes.
 -- Assumes nothing.
 use Prim.Native.Nat.{ℕ, zero, suc, _+_, _≤_}
-use mathlib.Core.Path.{_≡_, refl, ap}
+use mathlib.Core.Path.{_≡_, refl, ap, _∙_}
 use mathlib.Core.Bool.{Bool, true, false}
 use mathlib.Core.List.{List}
 use native.Mathlib.Omega.{arith}
 use borrow.Author.Tests.{leb-true}
 use lib.Dec.{leb}
-use lib.ListN.{length, replicate, length-replicate, length-drop, drop}
+use lib.ListN.{length, replicate, length-replicate, length-map, length-drop, drop}
 use lib.Seq.{length-take-le}
+use mir.Val.{Val}
+use denote.Laws.{Is}
 use Rattle.wire.specs.Bytes.{All, Bytes}
+use Rattle.wire.proofs.Buffer.{length-put}
 use Rattle.wire.proofs.Lists.{and-left}
 use Rattle.wire.proofs.Numbers.{number-at-lt, bytes-take, bytes-drop}
 use Rattle.layout.specs.Limits.{messageLimit}
+use Rattle.layout.specs.Types.{rootLength}
 use Rattle.state_bytes.specs.Places.{stateLength, idsStart, positionStart, messageStart}
 use Rattle.state_bytes.specs.Loaded.{eachAt, bytesAt, configAt, positionAt, messageAt, recordsAt, rowAt, idsAt, stateAt, isSaved, loaded}
-use Rattle.host.specs.Host.{Formed}
+use Rattle.interface.specs.declared.configs.RcConfig.{RcConfig}
+use Rattle.interface.specs.Configs.{configOf}
+use Rattle.interface.proofs.configs.RcConfig as RcConfig-row
+use Rattle.starting.specs.Given.{rootGiven}
+use Rattle.host.specs.Host.{Formed, GivenArrays, asRequest}
 use Rattle.host.specs.Demand3.{Fits}
+use Rattle.library_host.specs.Library.{LibraryRequest, commission, setKey, takeResults, startSigningRound, receive, processTimeout, aggregated, reset, canMoveTo}
+use Rattle.library_host.specs.Library.{requestOf, commissions}
 
 module _ {A : Type 0} (f : List ℕ → ℕ → A) (w : ℕ) (s : List ℕ) where
   length-each-at : (at n : ℕ) → length (eachAt f w s at n) ≡ n
@@ -78,3 +88,26 @@ loaded-fits b bytes = by (isSaved b) refl
     by : (y : Bool) → isSaved b ≡ y → Fits (loaded b)
     by true e = rw e (fits-at b bytes)
     by false e = rw e (fits-at (replicate stateLength 0) (zeros-bytes stateLength))
+
+-- What `Made` asks of a request's arrays holds of every configuration of its type, and of every other request.
+root-given-length : (root : List ℕ) → length (rootGiven root) ≡ 32
+unfolding rootGiven rootLength
+root-given-length root = length-put (replicate 32 0) 0 root ∙ length-replicate {A = ℕ} 32 0
+
+pub config-arrays : (g : RcConfig) (vs : List Val) → Is RcConfig-row.the-row g vs → GivenArrays (requestOf (commission g))
+unfolding requestOf configOf
+config-arrays g vs h =
+    let n : length (g .signers) ≡ 11 = rw length-map at (h .1 .1 .1 .1 .1 .1 .1 .1 .1 .1 .1 .1 .1 .1 .0 .1 .0 .1) in
+    rw (length-map, n)
+
+pub other-arrays : (q : LibraryRequest) → commissions q ≡ false → GivenArrays (requestOf q)
+unfolding requestOf asRequest
+other-arrays (commission g) e = let z : _≡_ {A = ℕ} 0 1 = cc in let f : ⊥ = omega arith in absurd f
+other-arrays (setKey which held) e = tt
+other-arrays (takeResults dkg ended) e = tt
+other-arrays (startSigningRound m t root given id) e = root-given-length root
+other-arrays (receive entry p) e = tt
+other-arrays processTimeout e = tt
+other-arrays (aggregated ok) e = tt
+other-arrays reset e = tt
+other-arrays (canMoveTo next t root) e = root-given-length root

@@ -1,6 +1,7 @@
 -- Laws of the library's calls together.
 -- Assumes nothing.
 pub mod Unsaved
+pub mod Outright
 pub mod Formed
 pub mod Calls
 pub mod Demands

@@ -3,3 +3,4 @@ pub mod Standing
 pub mod Back
 pub mod AllSaves
 pub mod Loads
+pub mod Front
