@@ -1,11 +1,14 @@
 -- Laws of the calls together.
 -- Assumes nothing.
-pub mod KeptLengths
-pub mod KeptCalls
-pub mod KeptRounds
-pub mod KeptNonces
-pub mod KeptShares
+pub mod Ends
+pub mod EndsCalls
+pub mod EndsRounds
+pub mod EndsNonces
+pub mod EndsShares
+pub mod EndsPackets
+pub mod Arrays
 pub mod Keeps
+pub mod Leaves
 pub mod Lent
 pub mod Calls
 pub mod Refines

@@ -1,3 +1,4 @@
 -- The calls together, as a host makes them.
 pub mod Host
 pub mod Demand3
+pub mod Refusals

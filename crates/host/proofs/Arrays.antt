@@ -1,28 +1,18 @@
--- The arrays of a struct and the bytes of a store keep their lengths, by the parts that turns are made of.
+-- The lengths of a struct's arrays, where one of them is replaced.
 -- Assumes nothing.
 use Prim.Native.Nat.{ℕ, zero, suc}
-use mathlib.Core.Path.{_≡_, refl, _∙_}
-use mathlib.Core.Bool.{Bool, true, false, cond}
+use mathlib.Core.Path.{_≡_, _∙_}
 use mathlib.Core.List.{List, [], _∷_}
 use lib.ListN.{length, set, getD, replicate, length-set, length-replicate}
 use Rattle.wire.specs.Bytes.{All}
 use Rattle.layout.specs.Limits.{messageLimit, signerLimit, recordLimit}
-use Rattle.step_definition.specs.Calls as A
-use Rattle.state.specs.declared.answers.Passed.{Passed}
-use Rattle.state.specs.declared.answers.Passed.the-variants.{Yes, No}
 use Rattle.state.specs.declared.fields.SignerEntry.{SignerEntry}
 use Rattle.state.specs.declared.fields.SignRoundInfo.{SignRoundInfo}
 use Rattle.state.specs.declared.fields.ShareSlot.{ShareSlot}
 use Rattle.state.specs.declared.fields.Coordinator.{Coordinator}
 use Rattle.state.specs.View.{noRow}
-use Rattle.state.specs.Turns.{Turn, unless}
 use Rattle.round.specs.Round.{emptyShares}
 use Rattle.host.specs.Host.{Formed}
-
--- what a turn keeps, of a call that is lent this store
-pub record Keeps (store : List ℕ) (t : Turn) : Type 0 where
-  pub formed : Formed (t .after)
-  pub stored : length (t .store) ≡ length store
 
 -- a row with a slot for each signer; the rows, of their type's number
 abbrev pub Ten : SignRoundInfo → Type 0
@@ -77,23 +67,3 @@ all-change P (y ∷ ys) (suc i) d x f a = (a .0, all-change P ys i d x f (a .1))
 
 pub set-row : (rows : List SignRoundInfo) (r : ℕ) (row : SignRoundInfo) → (Ten (getD rows r noRow) → Ten row) → Rows rows → Rows (set rows r row)
 set-row rows r row f h = (length-set rows r row ∙ h .0, all-change Ten rows r noRow row f (h .1))
-
--- turns by their shape: the store as it was, a question, a test
-pub keeps-same :
-    {answer : A.Answer} {events : List A.Event} {s : Coordinator} {store : List ℕ} → Formed s
-    → Keeps store (record { answer = answer; events = events; after = s; store = store })
-keeps-same f = record { formed = f; stored = refl }
-
-pub keeps-unless :
-    (p : Passed) {s : Coordinator} {store : List ℕ} {rest : Turn} → Formed s → (p ≡ Yes → Keeps store rest) → Keeps store (unless p s store rest)
-unfolding unless
-keeps-unless Yes f k = k refl
-keeps-unless (No n) f k = record { formed = f; stored = refl }
-
-pub keeps-cond : (b : Bool) {store : List ℕ} {x y : Turn} → Keeps store x → Keeps store y → Keeps store (cond b x y)
-keeps-cond true k l = k
-keeps-cond false k l = l
-
--- a store of the same length
-pub keeps-from : {t : Turn} {store : List ℕ} (store′ : List ℕ) → length store′ ≡ length store → Keeps store′ t → Keeps store t
-keeps-from store′ e k = record { formed = k .formed; stored = k .stored ∙ e }
