@@ -1,6 +1,7 @@
 // What is to be done with a share response: decided without a change.
 ghost use mathlib.Core.Path.{_≡_};
 ghost use mathlib.Core.List.{map};
+ghost use lib.Dec.{eqb};
 ghost use Prim.Native.Nat.{_≤_, _<_};
 ghost use Rattle.layout.specs.Limits.{signerLimit, recordLimit};
 ghost use Rattle.layout.specs.LaidOut.{headerIn, partsFrom};
@@ -9,6 +10,7 @@ ghost use Rattle.step_definition.specs.Effects.{shareKeyIds};
 ghost use Rattle.shares.specs.Shares.{Shareable};
 ghost use Rattle.share_verdicts.specs.Verdicts.{awaitedAt, sharesVerdict, waiterVerdict, verdictOf, Asked};
 use layout::Header;
+use layout::Ids;
 use layout::SignerId;
 use records::admits;
 use records::admits::Slot;
@@ -66,7 +68,14 @@ fn shares_verdict(s: Coordinator, r: usize, i: usize, packet: &[u8], pairs: u16)
     Verdict::Good(r, i)
 }
 
-// Waited for, then 16 and 17; the iteration is not compared.
+// "waiting is tested before the ids, the iteration never": a share of another iteration is of the same round.
+fn is_same_round(got: Ids, current: Ids) -> bool
+    ensures { λ r. ⌜ r ≡ eqb (got .«sign_id») (current .«sign_id») ⌝ }
+{
+    got.sign_id == current.sign_id
+}
+
+// Waited for, then 16 and 17.
 fn waiter_verdict(s: Coordinator, r: usize, i: usize, packet: &[u8], h: Header) -> Verdict
     requires { ⌜ Asked s (now packet) h × (i < signerLimit) ⌝ }
     ensures { λ v. ⌜ v ≡ waiterVerdict s (shareResponseIn (now (packet .entry))) r i ⌝ }
@@ -80,7 +89,7 @@ fn waiter_verdict(s: Coordinator, r: usize, i: usize, packet: &[u8], h: Header) 
     if got.dkg_id != current.dkg_id {
         return Verdict::Wrong(16, got.dkg_id, current.dkg_id);
     }
-    if got.sign_id != current.sign_id {
+    if !is_same_round(got, current) {
         return Verdict::Wrong(17, got.sign_id, current.sign_id);
     }
     shares_verdict(s, r, i, packet, h.pairs)
