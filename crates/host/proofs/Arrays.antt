@@ -65,5 +65,6 @@ all-change P [] i d x f a = tt
 all-change P (y ∷ ys) zero d x f a = (f (a .0), a .1)
 all-change P (y ∷ ys) (suc i) d x f a = (a .0, all-change P ys i d x f (a .1))
 
-pub set-row : (rows : List SignRoundInfo) (r : ℕ) (row : SignRoundInfo) → (Ten (getD rows r noRow) → Ten row) → Rows rows → Rows (set rows r row)
+pub set-row :
+    (rows : List SignRoundInfo) (r : ℕ) (row : SignRoundInfo) → (Ten (getD rows r noRow) → Ten row) → Rows rows → Rows (set rows r row)
 set-row rows r row f h = (length-set rows r row ∙ h .0, all-change Ten rows r noRow row f (h .1))

@@ -4,7 +4,7 @@ use Prim.Native.Nat.{ℕ, suc}
 use mathlib.Core.Path.{_≡_, refl, sym, ap, subst, _∙_}
 use mathlib.Core.Bool.{Bool, true, false, cond}
 use mathlib.Core.List.{List, [], _∷_, map}
-use mathlib.Core.Option.{Option, some, none}
+use mathlib.Core.Option.{Option, some, none, Option·none-ne-some}
 use native.Mathlib.Omega.{arith}
 use borrow.Author.Tests.{eqb-true}
 use lib.Dec.{eqb}
@@ -22,13 +22,13 @@ use Rattle.step_definition.specs.Coordinator.{Coordinator as Defined}
 use Rattle.step_definition.specs.Calls as A
 use Rattle.step_definition.specs.Refusals.{afterRefusal}
 use Rattle.step_definition.specs.Run.{maliciousIn, run, final}
-use Rattle.step_definition.specs.ResponseLog.{Place, orLater, firstNamed, empty}
+use Rattle.step_definition.specs.ResponseLog.{Place, orLater, firstNamed, empty, logAfter}
 use Rattle.step_definition.specs.Demand3.{Opens, SameFour, Plain, openedBy, firstShareRequest, Authentic}
 use Rattle.step_definition.specs.Silence.{unasked, watched, isCommission}
 use Rattle.step_definition.specs.Step.{step}
 use Rattle.step_definition.proofs.Answers.{nonce-request-answer, kind-1-answer, share-request-answer, kind-3-answer}
 use Rattle.step_definition.proofs.EqualBytes.{Writes1, equal-bytes-futures}
-use Rattle.step_definition.proofs.NextShareRequest.{next-share-request, share-request-authentic}
+use Rattle.step_definition.proofs.NextShareRequest.{RecordsLogged, next-share-request, log-is-records, share-request-authentic}
 use Rattle.step_definition.proofs.Refusals.{refusal-changes}
 use Rattle.step_definition.proofs.Malicious.{malicious-kept, malicious-grows}
 use Rattle.step_definition.proofs.Silence.{Begins, Adds, only-the-silent}
@@ -119,7 +119,7 @@ round-fits s store long f =
     }
 
 -- a struct that stands for a coordinator stands for what its fields say
-held-seen : (s : Coordinator) (store : List ℕ) (c : Defined) → view s store ≡ commissioned c → c ≡ coordinatorOf s store
+pub held-seen : (s : Coordinator) (store : List ℕ) (c : Defined) → view s store ≡ commissioned c → c ≡ coordinatorOf s store
 unfolding view heldIf
 held-seen s store c e = by (s .commissioned) (isWithin s) e
   where
@@ -205,7 +205,7 @@ module _ (k : HostCall) (x : Host) (r : HostRefines k x) where
           absurd w
       by false t = sym (later-named rest)
 
-first-kind-3 :
+pub first-kind-3 :
     (ks : List HostCall) (x : Host) → Formed (x .struct) → All (Makeable (length (x .store))) ks
     → firstKind3 ks x ≡ named (firstShareRequest (map asCall ks) (viewed x))
 unfolding firstKind3 firstShareRequest named
@@ -222,6 +222,16 @@ plain-seen [] x f a p = tt
 plain-seen (k ∷ ks) x f a p =
     let kept = step-formed k x f (a .0) in
     (p .0, p .1, subst (Plain (map asCall ks)) (call-refines k x f (a .0) .after) (plain-seen ks (hostStep k x) (kept .0) (subst (λ (n : ℕ). All (Makeable n) ks) (sym (kept .1)) (a .1)) (p .2)))
+
+-- and back: a list that is plain for what struct and store stand for is plain for the host
+pub plain-host :
+    (ks : List HostCall) (x : Host) → Formed (x .struct) → All (Makeable (length (x .store))) ks → Plain (map asCall ks) (viewed x) → HostPlain ks x
+unfolding asCall
+plain-host [] x f a p = tt
+plain-host (k ∷ ks) x f a p =
+    let kept = step-formed k x f (a .0) in
+    let rest : Plain (map asCall ks) (viewed (hostStep k x)) = subst (Plain (map asCall ks)) (sym (call-refines k x f (a .0) .after)) (p .2) in
+    (p .0, p .1, plain-host ks (hostStep k x) (kept .0) (subst (λ (n : ℕ). All (Makeable n) ks) (sym (kept .1)) (a .1)) rest)
 
 -- the opening call wrote the nonce request q; what is held after it is the coordinator that its struct and store stand for
 pub host-next-share-request :
@@ -241,4 +251,36 @@ host-next-share-request k x f m one ks a p =
       call-refines k x f m .answer ∙ nonce-request-answer (asCall k) (viewed x) (sent k x f m one) (o .sends),
       first-kind-3 ks y (step-formed k x f m .0) (makeable-after k x f m one ks a) ∙ ap (λ (h : Held). named (firstShareRequest (map asCall ks) h)) (after-seen k x f m one) ∙ ap named next,
       λ at e. share-request-authentic (asCall k) (viewed x) (sent k x f m one) (seen y) o (map asCall ks) plain at (next ∙ e),
+    )
+
+-- "which is then recorded": up to the first share request the book's entries are the records that struct and store stand for
+
+named-none : (o : Option Place) → named o ≡ none → o ≡ none
+unfolding named
+named-none none e = refl
+named-none (some p) e = absurd (Option·none-ne-some _ (sym e))
+
+pub host-log-is-records :
+    (k : HostCall) (x : Host) → Formed (x .struct) → Makeable (length (x .store)) k → kindWritten k x ≡ 1
+    → (ks : List HostCall) → All (Makeable (length (x .store))) ks → HostPlain ks (hostStep k x) → firstKind3 ks (hostStep k x) ≡ none
+    → (q : NonceRequest) × (turnOf k x .answer ≡ A.sending A.packet (encode (nonceRequest q)))
+    × RecordsLogged (viewed (hostFinal ks (hostStep k x)))
+    (logAfter (openedBy (asCall k) q (seen (hostStep k x))) (empty (openedBy (asCall k) q (seen (hostStep k x)))) (map asCall ks))
+host-log-is-records k x f m one ks a p none-left =
+    let y = hostStep k x in
+    let q = sent k x f m one in
+    let o = opens-seen k x f m one in
+    let seen-after = after-seen k x f m one in
+    let makeable = makeable-after k x f m one ks a in
+    let kept = step-formed k x f m .0 in
+    let plain : Plain (map asCall ks) (commissioned (seen y)) =
+    subst (Plain (map asCall ks)) seen-after (plain-seen ks y kept makeable p) in
+    let nothing : firstShareRequest (map asCall ks) (commissioned (seen y)) ≡ none =
+    named-none _
+    (ap (λ (h : Held). named (firstShareRequest (map asCall ks) h)) (sym seen-after) ∙ sym (first-kind-3 ks y kept makeable) ∙ none-left) in
+    let end : viewed (hostFinal ks y) ≡ final (map asCall ks) (commissioned (seen y)) =
+    run-refines ks y kept makeable .1 ∙ ap (final (map asCall ks)) seen-after in (
+      q,
+      call-refines k x f m .answer ∙ nonce-request-answer (asCall k) (viewed x) q (o .sends),
+      rw end (log-is-records (asCall k) (viewed x) q (seen y) o (map asCall ks) plain nothing),
     )

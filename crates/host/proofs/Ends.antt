@@ -6,7 +6,6 @@ use mathlib.Core.Path.{_≡_, refl}
 use mathlib.Core.Bool.{Bool, true, false, cond}
 use mathlib.Core.List.{List}
 use lib.ListN.{length, replicate}
-use Rattle.layout.specs.declared.Ids.{Ids}
 use Rattle.layout.specs.declared.SignatureType.{SignatureType}
 use Rattle.layout.specs.LaidOut.{headerIn, partAt}
 use Rattle.state.specs.declared.answers.Passed.{Passed}
@@ -58,7 +57,8 @@ pub data Taken (s : Coordinator) (store : List ℕ) : HostRequest → Coordinato
   started-idle :
       {entry : Entry} {p : List ℕ} (clock n : ℕ)
       → Taken s store (receive entry p)
-      (startRequested clock (startIn p .«signature_type») (startIn p .root) (startNamed (partAt p 32) (startIn p .«sign_id») (iterated n s)))
+      (startRequested clock (startIn p .«signature_type») (startIn p .root)
+      (startNamed (partAt p 32) (startIn p .«sign_id») (iterated n s)))
       store
   excluded : {q : HostRequest} (waits : List Bool) → Taken s store q (excludedIn waits s) store
   retried :

@@ -3,7 +3,7 @@
 use Prim.Native.Nat.{ℕ, _≤_}
 use mathlib.Core.Path.{_≡_, refl}
 use mathlib.Core.Bool.{Bool, true, false, not, _||_}
-use mathlib.Core.List.{List, []}
+use mathlib.Core.List.{List}
 use native.Mathlib.Omega.{arith}
 use lib.Dec.{leb}
 use lib.ListN.{length, replicate}
@@ -27,7 +27,7 @@ use Rattle.calls.specs.declared.held_keys.HeldKey.{HeldKey}
 use Rattle.calls.specs.Calls.{askingNoJob, askingAJob, setKeyTurn, moveTurn, aggregatedTurn}
 use Rattle.calls.specs.Resets.{asksNothing, resetTurn}
 use Rattle.results.specs.Results.{isKnown, resultsAsked, resultsTurn}
-use Rattle.host.specs.Host.{HostRequest, commission, setKey, takeResults, canMove, aggregated, reset}
+use Rattle.host.specs.Host.{commission, setKey, takeResults, canMove, aggregated, reset}
 use Rattle.host.specs.Refusals.{commissioning, failed}
 use Rattle.host.proofs.Ends.{Ended, took, refused, fresh, key-set, results-taken, signature, all-reset, as-before, Bare, ends-unless}
 
@@ -62,7 +62,8 @@ commission-took g store e = by (newAsked (newConfigOf g)) (new-numbers (newConfi
     ended : Passed → Turn
     ended p = unless p uncommissionedStruct store (turn A.plain (freshOf g) (replicate (length store) 0))
 
-    by : (p : Passed) → FirstThree p → ended p .answer .number ≡ 0 → (ended p .after ≡ freshOf g) × (ended p .store ≡ replicate (length store) 0)
+    by : (p : Passed) → FirstThree p → ended p .answer .number ≡ 0
+        → (ended p .after ≡ freshOf g) × (ended p .store ≡ replicate (length store) 0)
     by Yes f e = (refl, refl)
     by (No n) f e = absurd (omega (arith, f .0))
 
@@ -90,7 +91,8 @@ results-bare ended s =
 module _ (s : Coordinator) (store : List ℕ) where
   pub set-key-ends : (which : HeldKey) (held : Bool) → Ended (setKey which held) s store (setKeyTurn which held s store)
   unfolding setKeyTurn
-  set-key-ends which held = ends-unless (asked askingNoJob (length store) 0 s) (asked-bare askingNoJob (length store) 0 s) (took refl key-set)
+  set-key-ends which held =
+      ends-unless (asked askingNoJob (length store) 0 s) (asked-bare askingNoJob (length store) 0 s) (took refl key-set)
 
   pub move-ends : (next : State) (root : List ℕ) → Ended (canMove next root) s store (moveTurn next root s store)
   unfolding moveTurn

@@ -68,7 +68,8 @@ module _ (clock : ℕ) (t : SignatureType) (entry : Entry) (p : List ℕ) (s : C
       let s′ = withRecord p r i s in
       let store′ = recordStored p r i s store in
       ends-cond (leb (s .config .«sign_threshold») (receivedKeys m s′ store′))
-      (λ e. ends-cond (s .keys .aggregate) (λ f. took refl (shares-asked clock t r i)) (λ f. refused (gathering entry p t r i here two place slot)))
+      (λ e. ends-cond (s .keys .aggregate) (λ f. took refl (shares-asked clock t r i))
+      (λ f. refused (gathering entry p t r i here two place slot)))
       (λ e. took refl (recorded r i))
 
   verdict-ends :
@@ -82,4 +83,6 @@ module _ (clock : ℕ) (t : SignatureType) (entry : Entry) (p : List ℕ) (s : C
 
   pub gather-ends : Ended (receive entry p) s store (gatherTurn clock t (headerIn p .ids) id m (partAt p 40) (partAt p 48) s store)
   unfolding gatherTurn
-  gather-ends = verdict-ends (verdictOf s (headerIn p .ids) id store m (partAt p 40) (partAt p 48)) (verdict-says id m (partAt p 40) (partAt p 48) s store (headerIn p .ids))
+  gather-ends =
+      verdict-ends (verdictOf s (headerIn p .ids) id store m (partAt p 40) (partAt p 48))
+      (verdict-says id m (partAt p 40) (partAt p 48) s store (headerIn p .ids))

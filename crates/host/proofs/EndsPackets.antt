@@ -58,7 +58,8 @@ module _ (clock : ℕ) (verdict : Bool) (entry : Entry) (p : List ℕ) (s : Coor
   message-ends : Ended (receive entry p) s store (messageTurn clock verdict p s store)
   unfolding messageTurn
   message-ends =
-      ends-unless (verifiedAsked (headerIn p) verdict s) (verified-bare (headerIn p) verdict s) (phase-ends (phaseOf (s .position .state)) refl)
+      ends-unless (verifiedAsked (headerIn p) verdict s) (verified-bare (headerIn p) verdict s)
+      (phase-ends (phaseOf (s .position .state)) refl)
 
   entry-ends : (by : Entry) → Ended (receive entry p) s store (entryTurn by clock verdict p s store)
   unfolding entryTurn processedTurn
@@ -73,7 +74,8 @@ module _ (clock : ℕ) (verdict : Bool) (entry : Entry) (p : List ℕ) (s : Coor
   receive-ends : (room : ℕ) → Ended (receive entry p) s store (receiveTurn entry clock verdict p room s store)
   unfolding receiveTurn
   receive-ends room =
-      ends-unless (asked askingPacket (length store) room s) (asked-bare askingPacket (length store) room s) (decoded-ends (decode p) (decode-bare p))
+      ends-unless (asked askingPacket (length store) room s) (asked-bare askingPacket (length store) room s)
+      (decoded-ends (decode p) (decode-bare p))
 
 pub turn-ends :
     (q : HostRequest) (clock : ℕ) (verdict : Bool) (room : ℕ) (s : Coordinator) (store : List ℕ)

@@ -2,7 +2,7 @@
 -- Assumes nothing.
 use Prim.Native.Nat.{ℕ}
 use mathlib.Core.Path.{_≡_, refl, sym}
-use mathlib.Core.Bool.{Bool, true, false, false≢true}
+use mathlib.Core.Bool.{Bool, false, false≢true}
 use mathlib.Core.List.{List, map}
 use borrow.Author.Tests.{eqb-true}
 use lib.Dec.{eqb, leb, ltb}
@@ -13,7 +13,6 @@ use Rattle.layout.specs.LaidOut.{headerIn, partAt}
 use Rattle.state_table.specs.declared.State.the-variants.{Idle, NonceRequest}
 use Rattle.state_table.specs.States.{position, typesAgree, same}
 use Rattle.state_table.specs.Moves.{accepted, canMoveTo}
-use Rattle.step_definition.specs.Ids.{previous}
 use Rattle.step_definition.specs.Phases.{idling, phaseOf}
 use Rattle.step_definition.proofs.Cases.{cond-both}
 use Rattle.step_definition.proofs.Phases.{in-idle}
@@ -26,7 +25,7 @@ use Rattle.starts.specs.Starts.{startNamed, startRequested, requestTurn, namedT
 use Rattle.signer_ids.specs.Flags.{isWaiting}
 use Rattle.timeouts.specs.NonceTimeout.{currentPlace, recordAsked, nonceTimeoutTurn}
 use Rattle.share_timeout.specs.Exclusion.{excludedIn, tooFewKeys}
-use Rattle.share_timeout.specs.ShareTimeout.{insufficientTurn, retryTurn, excludedTurn, newlyMarked, rowTurn, shareTimeoutTurn}
+use Rattle.share_timeout.specs.ShareTimeout.{insufficientTurn, retryTurn, excludedTurn, rowTurn, shareTimeoutTurn}
 use Rattle.process_timeout.specs.declared.dues.Due.{Due}
 use Rattle.process_timeout.specs.declared.dues.Due.the-variants.{Nothing, Nonces, Shares}
 use Rattle.process_timeout.specs.Due.{dueOf, dueTurn, quietTurn}
@@ -69,7 +68,9 @@ module _ (clock : ℕ) (s : Coordinator) (store : List ℕ) where
       (λ e. refused (otherwise (start m by) 9 refl)))
 
   module _ (entry : Entry) (p : List ℕ) where
-    idle-request-ends : phaseOf (s .position .state) ≡ idling → headerIn p .kind ≡ 1 → Ended (receive entry p) s store (idleRequestTurn clock p s store)
+    idle-request-ends :
+        phaseOf (s .position .state) ≡ idling → headerIn p .kind ≡ 1
+        → Ended (receive entry p) s store (idleRequestTurn clock p s store)
     unfolding idleRequestTurn iterated startNamed
     idle-request-ends e one =
         let n = headerIn p .ids .«sign_iter_id» in

@@ -71,7 +71,8 @@ module _ (t : SignatureType) (entry : Entry) (p : List ℕ) (s : Coordinator) (s
       (λ e. ends-cond (anyWaits (rowOf (slotsOf (s .config)) store r (getD (s′ .records .rows) r noRow) .sign-wait-signer-ids))
       (λ f. took refl (shares-taken parts r i)) (λ f. took refl (job-out parts r i)))
 
-  verdict-ends : (v : Verdict) → Says (shareResponseIn p) s store v → Ended (receive entry p) s store (verdictTurn t p (headerIn p) s store v)
+  verdict-ends :
+      (v : Verdict) → Says (shareResponseIn p) s store v → Ended (receive entry p) s store (verdictTurn t p (headerIn p) s store v)
   unfolding verdictTurn shareResponseIn
   verdict-ends Unawaited says = took refl as-before
   verdict-ends (Wrong n got expected) says = refused (otherwise (receive entry p) n says)

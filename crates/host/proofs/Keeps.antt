@@ -17,7 +17,6 @@ use Rattle.layout.specs.declared.SignatureType.{SignatureType}
 use Rattle.step_definition.proofs.Cases.{cond-both}
 use Rattle.state.specs.declared.fields.Config.{Config}
 use Rattle.state.specs.declared.fields.Records.{Records}
-use Rattle.state.specs.declared.fields.ResponseSlot.{ResponseSlot}
 use Rattle.state.specs.declared.fields.Coordinator.{Coordinator}
 use Rattle.state.specs.Setters.{setSlot}
 use Rattle.state.specs.View.{messageAt, keysAt, noncesAt, noSlot, noRow}
@@ -111,17 +110,20 @@ module _ {s : Coordinator} (f : Formed s) where
 
   record-formed : (p : List ℕ) (r i : ℕ) → Formed (withRecord p r i s)
   record-formed p r i =
-      formed-of (with-rows (arrays-of f) (added-rows r i (partAt p 32) (partAt p 40) (partAt p 48) (s .records) (headerIn p .ids) (arrays-of f .rows)))
+      formed-of (with-rows (arrays-of f)
+      (added-rows r i (partAt p 32) (partAt p 40) (partAt p 48) (s .records) (headerIn p .ids) (arrays-of f .rows)))
 
   shares-asked-formed : (clock : ℕ) (t : SignatureType) (m : List ℕ) → Formed (sharesRequested clock t m s)
   unfolding sharesRequested
-  shares-asked-formed clock t m = formed-of (with-shares (with-bytes (arrays-of f) (length-put (s .message .bytes) 0 m ∙ f .bytes)) none-held)
+  shares-asked-formed clock t m =
+      formed-of (with-shares (with-bytes (arrays-of f) (length-put (s .message .bytes) 0 m ∙ f .bytes)) none-held)
 
   freed-formed : (r i : ℕ) → Formed (freed r i s)
   freed-formed r i =
       let row = getD (s .records .rows) r noRow in
       let x = freedSlot (getD (row .slots) i noSlot) in
-      formed-of (with-rows (arrays-of f) (set-row (s .records .rows) r (setSlot i x row) (λ t. length-set (row .slots) i x ∙ t) (arrays-of f .rows)))
+      formed-of (with-rows (arrays-of f)
+      (set-row (s .records .rows) r (setSlot i x row) (λ t. length-set (row .slots) i x ∙ t) (arrays-of f .rows)))
 
 shares-formed : {s : Coordinator} → Formed s → (parts : List (List ℕ)) (r i : ℕ) → Formed (withShares parts r i s)
 shares-formed {s} f parts r i =
@@ -168,7 +170,9 @@ module _ {s : Coordinator} {store : List ℕ} (f : Formed s) where
   taken-formed (job-out parts r i) a = formed-of (arrays-of (shares-formed f parts r i))
 
 module _ {s : Coordinator} {store : List ℕ} where
-  pub refusal-stored : {q : HostRequest} {n : ℕ} {s′ : Coordinator} {store′ : List ℕ} → RefusalLeaves s store q n s′ store′ → length store′ ≡ length store
+  pub refusal-stored :
+      {q : HostRequest} {n : ℕ} {s′ : Coordinator} {store′ : List ℕ}
+      → RefusalLeaves s store q n s′ store′ → length store′ ≡ length store
   refusal-stored (commissioning g n l h) = refl
   refusal-stored (idle entry p e k) = refl
   refusal-stored (unheld m by) = refl

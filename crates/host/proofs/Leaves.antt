@@ -1,8 +1,8 @@
 -- What a refusal, a commissioning and the calls that bring no packet leave of a host's struct and store: all fields and all bytes.
 -- Assumes nothing.
-use Prim.Native.Nat.{ℕ, zero, suc, _≤_, _<_}
+use Prim.Native.Nat.{ℕ, zero, suc, _<_}
 use mathlib.Core.Path.{_≡_, refl, sym, ap, subst, _∙_}
-use mathlib.Core.Bool.{Bool, true, false, false≢true}
+use mathlib.Core.Bool.{true, false, false≢true}
 use mathlib.Core.List.{List, [], _∷_, _++_}
 use mathlib.Core.Logic.{_⊎_, _≢_, ⊎-elim}
 use native.Mathlib.Omega.{arith}
@@ -24,7 +24,7 @@ use Rattle.state.proofs.Store.{Same, same-all, same-then, put-after, put-before
 use Rattle.configuration.specs.declared.new_config.NewConfig.{NewConfig}
 use Rattle.commission.specs.Commission.{freshOf, commissionTurn}
 use Rattle.records.specs.Records.{emptyRow, opened, openedStore, heldSlot, addedRecords, addedStore}
-use Rattle.host.specs.Host.{HostRequest, commission, setKey, takeResults, canMove, start, receive, processTimeout, aggregated, reset}
+use Rattle.host.specs.Host.{HostRequest, commission}
 use Rattle.host.specs.Host.{HostCall, Host, turnFor, turnOf, hostStep, Makeable}
 use Rattle.host.specs.Refusals.{changing, RefusalLeaves, commissioning, idle, unheld, gathering, unmoved, waiter, failed, otherwise}
 use Rattle.host.specs.Refusals.{Apart, RecordMade, stores}
@@ -61,7 +61,8 @@ module _ (k : HostCall) (x : Host) where
 
   pub host-refusal-leaves :
       Makeable (length (x .store)) k → (n : ℕ) → turnOf k x .answer .number ≡ suc n
-      → RefusalLeaves (x .struct) (take (k .lent) (x .store)) (k .request) (suc n) (hostStep k x .struct) (take (k .lent) (hostStep k x .store))
+      → RefusalLeaves (x .struct) (take (k .lent) (x .store)) (k .request) (suc n)
+      (hostStep k x .struct) (take (k .lent) (hostStep k x .store))
       × (drop (k .lent) (hostStep k x .store) ≡ drop (k .lent) (x .store))
   unfolding hostStep
   host-refusal-leaves m n e =
@@ -105,6 +106,13 @@ other-slot [] r i j x h = refl
 other-slot (row ∷ rows) zero i j x h = getD-set-other (row .slots) i j x noSlot h
 other-slot (row ∷ rows) (suc r) i j x h = other-slot rows r i j x h
 
+row-message :
+    (rows : List SignRoundInfo) (r i : ℕ) (x : ResponseSlot)
+    → getD (set rows r (setSlot i x (getD rows r noRow))) r noRow .message ≡ getD rows r noRow .message
+row-message [] r i x = refl
+row-message (row ∷ rows) zero i x = refl
+row-message (row ∷ rows) (suc r) i x = row-message rows r i x
+
 module _ (r i : ℕ) (ids : Ids) (m keys nonces : List ℕ) (rs : Records) (store : List ℕ) where
   opened-rows : (j : ℕ) → j ≢ r → getD (opened r (length m) rs .rows) j noRow ≡ getD (rs .rows) j noRow
   unfolding opened
@@ -120,7 +128,8 @@ module _ (r i : ℕ) (ids : Ids) (m keys nonces : List ℕ) (rs : Records) (stor
   unfolding openedStore
   opened-bytes at n =
       ⊎-elim (λ h. rw (lt-ltb r (rs .count) h) (same-all at n store))
-      (λ a. cond-case (λ (l : List ℕ). Same at n store l) (ltb r (rs .count)) (λ e. same-all at n store) (λ e. put-apart store (messageAt r) m a))
+      (λ a. cond-case (λ (l : List ℕ). Same at n store l) (ltb r (rs .count)) (λ e. same-all at n store)
+      (λ e. put-apart store (messageAt r) m a))
 
   pub record-made : RecordMade r i m keys nonces rs (addedRecords r i ids m keys nonces rs) store (addedStore r i m keys nonces rs store)
   unfolding addedRecords addedStore
@@ -130,11 +139,15 @@ module _ (r i : ℕ) (ids : Ids) (m keys nonces : List ℕ) (rs : Records) (stor
       let row = getD (o .rows) r noRow in
       record {
         rows = λ j h. getD-set-other (o .rows) r j (setSlot i x row) noRow h ∙ opened-rows j h;
-        slots = λ l j h. other-slot (o .rows) r i j x h ∙ ap (λ (o : Records). getD (getD (o .rows) r noRow .slots) j noSlot) (opened-known l);
+        count = λ l. ap (λ (o : Records). o .count) (opened-known l);
+        message = λ l. row-message (o .rows) r i x ∙ ap (λ (o : Records). getD (o .rows) r noRow .message) (opened-known l);
+        slots = λ l j h. other-slot (o .rows) r i j x h
+            ∙ ap (λ (o : Records). getD (getD (o .rows) r noRow .slots) j noSlot) (opened-known l);
         long = added-length r i m keys nonces rs store;
         bytes = λ at n a b c.
             let first = openedStore r m rs store in
-            let same = same-then (opened-bytes at n a) (same-then (put-apart first (keysAt r i) keys b) (put-apart (put first (keysAt r i) keys) (noncesAt r i) nonces c)) in
+            let keyed = same-then (opened-bytes at n a) (put-apart first (keysAt r i) keys b) in
+            let same = same-then keyed (put-apart (put first (keysAt r i) keys) (noncesAt r i) nonces c) in
             sym (same .bytes);
       }
 
@@ -149,15 +162,19 @@ unfolding hostStep turnFor
 host-commission-zeros k x g e m z =
     let front = take (k .lent) (x .store) in
     let long : length front ≡ k .lent = length-take-le (k .lent) (x .store) (m .lent) in
-    let same : turnOf k x ≡ commissionTurn g front = ap (λ (q : HostRequest). turnFor q (k .clock) (k .verdict) (k .room) (x .struct) front) e in
+    let same : turnOf k x ≡ commissionTurn g front =
+    ap (λ (q : HostRequest). turnFor q (k .clock) (k .verdict) (k .room) (x .struct) front) e in
     let done = commission-took g front (sym (ap (λ (t : Turn). t .answer .number) same) ∙ z) in
-    let stored : turnOf k x .store ≡ replicate (k .lent) 0 = ap (λ (t : Turn). t .store) same ∙ done .1 ∙ ap (λ (n : ℕ). replicate n 0) long in
+    let stored : turnOf k x .store ≡ replicate (k .lent) 0 =
+    ap (λ (t : Turn). t .store) same ∙ done .1 ∙ ap (λ (n : ℕ). replicate n 0) long in
     let after = lent-after k x (k .lent) refl (ap length stored ∙ length-replicate (k .lent) 0) in
     (ap (λ (t : Turn). t .after) same ∙ done .0, after .0 ∙ stored, after .1)
 
 -- The calls that bring no packet
 
-refusal-stores : {q : HostRequest} {n : ℕ} {s s′ : Coordinator} {store store′ : List ℕ} → RefusalLeaves s store q n s′ store′ → stores q ≡ false → store′ ≡ store
+refusal-stores :
+    {q : HostRequest} {n : ℕ} {s s′ : Coordinator} {store store′ : List ℕ}
+    → RefusalLeaves s store q n s′ store′ → stores q ≡ false → store′ ≡ store
 refusal-stores (commissioning g n l h) e = refl
 refusal-stores (idle entry p e k) c = refl
 refusal-stores (unheld m by) c = refl
@@ -167,7 +184,8 @@ refusal-stores (waiter entry p t n r i e k l h place slot) c = refl
 refusal-stores failed c = refl
 refusal-stores (otherwise q n e) c = refl
 
-taken-stores : {q : HostRequest} {s s′ : Coordinator} {store store′ : List ℕ} → Taken s store q s′ store′ → stores q ≡ false → store′ ≡ store
+taken-stores :
+    {q : HostRequest} {s s′ : Coordinator} {store store′ : List ℕ} → Taken s store q s′ store′ → stores q ≡ false → store′ ≡ store
 taken-stores as-before c = refl
 taken-stores (fresh e) c = absurd (false≢true (sym c))
 taken-stores key-set c = refl
@@ -190,4 +208,5 @@ ended-stores (refused r) c = refusal-stores r c
 
 pub host-store-kept : (k : HostCall) (x : Host) → stores (k .request) ≡ false → hostStep k x .store ≡ x .store
 unfolding hostStep
-host-store-kept k x c = ap (λ (l : List ℕ). l ++ drop (k .lent) (x .store)) (ended-stores (ended k x) c) ∙ take-append-drop (k .lent) (x .store)
+host-store-kept k x c =
+    ap (λ (l : List ℕ). l ++ drop (k .lent) (x .store)) (ended-stores (ended k x) c) ∙ take-append-drop (k .lent) (x .store)

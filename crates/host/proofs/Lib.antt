@@ -14,4 +14,5 @@ pub mod Calls
 pub mod Refines
 pub mod Demands
 pub mod Given
+pub mod WorkedRound
 pub mod Contracts

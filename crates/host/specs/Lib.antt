@@ -2,3 +2,4 @@
 pub mod Host
 pub mod Demand3
 pub mod Refusals
+pub mod WorkedRound

@@ -29,7 +29,7 @@ use Rattle.starts.specs.Starts.{signIdOf}
 use Rattle.entries.specs.declared.Entry.{Entry}
 use Rattle.host.specs.Host.{HostRequest, commission, setKey, takeResults, canMove, start, receive, processTimeout, aggregated, reset}
 
--- the numbers after which something may differ: 1 to 3, 10, 11, 20 to 22, and 23
+-- the numbers after which something may differ: 1 to 3, 10, 11, 20 to 23
 abbrev pub changing : ℕ → Bool
 changing n = (leb 1 n && leb n 3) || eqb n 10 || eqb n 11 || (leb 20 n && leb n 23)
 
@@ -93,6 +93,8 @@ Apart at n b size = (at + n ≤ b) ⊎ (b + size ≤ at)
 -- store but those of the key ids, the nonces and, where it had no record, the message
 pub record RecordMade (r i : ℕ) (m keys nonces : List ℕ) (rs rs′ : Records) (store store′ : List ℕ) : Type 0 where
   pub rows : (j : ℕ) → j ≢ r → getD (rs′ .rows) j noRow ≡ getD (rs .rows) j noRow
+  pub count : r < rs .count → rs′ .count ≡ rs .count
+  pub message : r < rs .count → getD (rs′ .rows) r noRow .message ≡ getD (rs .rows) r noRow .message
   pub slots :
       r < rs .count → (j : ℕ) → j ≢ i
       → getD (getD (rs′ .rows) r noRow .slots) j noSlot ≡ getD (getD (rs .rows) r noRow .slots) j noSlot

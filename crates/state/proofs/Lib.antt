@@ -7,6 +7,7 @@ pub mod Arrays
 pub mod SignerSlots
 pub mod Collect
 pub mod Within
+pub mod LiveCounts
 pub mod Store
 pub mod Shape
 pub mod Refines

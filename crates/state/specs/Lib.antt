@@ -2,5 +2,6 @@
 pub mod Slots
 pub mod Counts
 pub mod View
+pub mod LiveCounts
 pub mod Setters
 pub mod Turns
