@@ -189,8 +189,8 @@ rc_answer rc_reset(uint8_t *state, size_t state_length, const uint8_t *store, si
 
 /* Whether the coordinator may move to a state: RC_RESULT, first 1 yes, 0 no. next: 0 to 14 in the Rust's order (0 Idle, 11 NonceRequest, 12 NonceGather,
  * 13 SigShareRequest, 14 SigShareGather). With 11 it says whether a start would get 11; with 1 (DkgPublicDistribute) whether the coordinator is idle.
- * Type and root are those of a signing state (11 to 14). Asked 4, 5; a state above 14, a type above 3, or RC_TAPROOT_ROOT with a root that has
- * not 32 bytes, is refused with 8 before, the type whatever the state. */
+ * Type and root are those of a signing state (11 to 14). Asked 4, 5; a state above 14, a type above 3, or RC_TAPROOT_ROOT with a root that
+ * has not 32 bytes, is refused with 8 before, the type whatever the state. */
 rc_answer rc_can_move_to(uint8_t *state, size_t state_length, const uint8_t *store, size_t store_length, uint8_t next, uint8_t signature_type,
                          const uint8_t *root, size_t root_length);
 

@@ -2,3 +2,4 @@
 pub mod Answers
 pub mod Configs
 pub mod Called
+pub mod Fields

@@ -1,2 +1,3 @@
--- A packet as plain numbers.
+-- A packet as plain numbers, and what they are, field by field.
 pub mod Plain
+pub mod Fields

@@ -2,3 +2,4 @@
 -- Assumes nothing.
 pub mod Plain
 pub mod ReadBack
+pub mod Laid

@@ -20,7 +20,7 @@ use Rattle.writing.specs.Given.{headOf, responsesOf}
 use Rattle.writing.specs.ReadBack.{headerGiven, ReadAs}
 
 -- the type's number, in a header of the head's
-type-given :
+pub type-given :
     (kind pairs : ℕ) (h : RcHead) → h .«signature_type» ≤ 3
     → headerOf kind (typeNumber (typeOf (h .«signature_type»))) pairs 0 (headerGiven kind pairs h .ids) ≡ headerGiven kind pairs h
 type-given kind pairs h few = ap (λ (t : ℕ). headerOf kind t pairs 0 (headerGiven kind pairs h .ids)) (typeNumber-typeOf (h .«signature_type») few)

@@ -1,0 +1,3 @@
+-- Which types, roots and sign ids are said.
+-- Assumes nothing.
+pub mod Said
