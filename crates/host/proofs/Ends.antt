@@ -30,7 +30,7 @@ use Rattle.shares.specs.Shares.{keptShares, keptStore}
 use Rattle.share_gather.specs.ShareGather.{freed}
 use Rattle.entries.specs.declared.Entry.{Entry}
 use Rattle.host.specs.Host.{HostRequest, commission, setKey, takeResults, start, receive, aggregated, reset}
-use Rattle.host.specs.Refusals.{changing, RefusalLeaves, otherwise}
+use Rattle.host.specs.Refusals.{changing, commissions, RefusalLeaves, otherwise}
 
 -- the response of a packet recorded, in row r and slot i
 abbrev pub withRecord : List ℕ → ℕ → ℕ → Coordinator → Coordinator
@@ -86,10 +86,10 @@ Bare Yes = Unit {0}
 Bare (No n) = changing n ≡ false
 
 module _ {q : HostRequest} {s : Coordinator} {store : List ℕ} where
-  pub ends-unless : (p : Passed) {rest : Turn} → Bare p → Ended q s store rest → Ended q s store (unless p s store rest)
+  pub ends-unless : commissions q ≡ false → (p : Passed) {rest : Turn} → Bare p → Ended q s store rest → Ended q s store (unless p s store rest)
   unfolding unless
-  ends-unless Yes b k = k
-  ends-unless (No n) b k = refused (otherwise q n b)
+  ends-unless other Yes b k = k
+  ends-unless other (No n) b k = refused (otherwise q n other b)
 
   pub ends-cond : (b : Bool) {x y : Turn} → (b ≡ true → Ended q s store x) → (b ≡ false → Ended q s store y) → Ended q s store (cond b x y)
   ends-cond true k l = k refl

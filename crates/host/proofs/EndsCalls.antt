@@ -92,23 +92,23 @@ module _ (s : Coordinator) (store : List ℕ) where
   pub set-key-ends : (which : HeldKey) (held : Bool) → Ended (setKey which held) s store (setKeyTurn which held s store)
   unfolding setKeyTurn
   set-key-ends which held =
-      ends-unless (asked askingNoJob (length store) 0 s) (asked-bare askingNoJob (length store) 0 s) (took refl key-set)
+      ends-unless refl (asked askingNoJob (length store) 0 s) (asked-bare askingNoJob (length store) 0 s) (took refl key-set)
 
   pub move-ends : (next : State) (root : List ℕ) → Ended (canMove next root) s store (moveTurn next root s store)
   unfolding moveTurn
-  move-ends next root = ends-unless (asked askingNoJob (length store) 0 s) (asked-bare askingNoJob (length store) 0 s) (took refl as-before)
+  move-ends next root = ends-unless refl (asked askingNoJob (length store) 0 s) (asked-bare askingNoJob (length store) 0 s) (took refl as-before)
 
   pub aggregated-ends : (ok : Bool) → Ended (aggregated ok) s store (aggregatedTurn ok s store)
   unfolding aggregatedTurn
-  aggregated-ends true = ends-unless (asked askingAJob (length store) 0 s) (asked-bare askingAJob (length store) 0 s) (took refl signature)
-  aggregated-ends false = ends-unless (asked askingAJob (length store) 0 s) (asked-bare askingAJob (length store) 0 s) (refused failed)
+  aggregated-ends true = ends-unless refl (asked askingAJob (length store) 0 s) (asked-bare askingAJob (length store) 0 s) (took refl signature)
+  aggregated-ends false = ends-unless refl (asked askingAJob (length store) 0 s) (asked-bare askingAJob (length store) 0 s) (refused failed)
 
   pub reset-ends : Ended reset s store (resetTurn s store)
   unfolding resetTurn
-  reset-ends = ends-unless (asked asksNothing (length store) 0 s) (asked-bare asksNothing (length store) 0 s) (took refl all-reset)
+  reset-ends = ends-unless refl (asked asksNothing (length store) 0 s) (asked-bare asksNothing (length store) 0 s) (took refl all-reset)
 
   pub results-ends : (dkg : ℕ) (ended : List ℕ) → Ended (takeResults dkg ended) s store (resultsTurn dkg ended s store)
   unfolding resultsTurn
   results-ends dkg ended =
-      ends-unless (asked askingNoJob (length store) 0 s) (asked-bare askingNoJob (length store) 0 s)
-      (ends-unless (resultsAsked ended s) (results-bare ended s) (took refl results-taken))
+      ends-unless refl (asked askingNoJob (length store) 0 s) (asked-bare askingNoJob (length store) 0 s)
+      (ends-unless refl (resultsAsked ended s) (results-bare ended s) (took refl results-taken))

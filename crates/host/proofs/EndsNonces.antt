@@ -76,8 +76,8 @@ module _ (clock : ℕ) (t : SignatureType) (entry : Entry) (p : List ℕ) (s : C
       (v : Verdict) → Says id m (partAt p 40) (partAt p 48) s store v
       → Ended (receive entry p) s store (verdictTurn clock t (headerIn p .ids) id m (partAt p 40) (partAt p 48) s store v)
   unfolding verdictTurn
-  verdict-ends (Wrong n got expected) says = refused (otherwise (receive entry p) n says)
-  verdict-ends Full says = refused (otherwise (receive entry p) 19 refl)
+  verdict-ends (Wrong n got expected) says = refused (otherwise (receive entry p) n refl says)
+  verdict-ends Full says = refused (otherwise (receive entry p) 19 refl refl)
   verdict-ends Nothing says = took refl as-before
   verdict-ends (Record r i) says = recorded-ends r i (says .0) (says .1)
 

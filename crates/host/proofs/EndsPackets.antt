@@ -58,23 +58,23 @@ module _ (clock : ℕ) (verdict : Bool) (entry : Entry) (p : List ℕ) (s : Coor
   message-ends : Ended (receive entry p) s store (messageTurn clock verdict p s store)
   unfolding messageTurn
   message-ends =
-      ends-unless (verifiedAsked (headerIn p) verdict s) (verified-bare (headerIn p) verdict s)
+      ends-unless refl (verifiedAsked (headerIn p) verdict s) (verified-bare (headerIn p) verdict s)
       (phase-ends (phaseOf (s .position .state)) refl)
 
   entry-ends : (by : Entry) → Ended (receive entry p) s store (entryTurn by clock verdict p s store)
   unfolding entryTurn processedTurn
-  entry-ends Process = due-ends clock s store (receive entry p) (dueOf clock s) (messageTurn clock verdict p s store) message-ends
+  entry-ends Process = due-ends clock s store (receive entry p) refl (dueOf clock s) (messageTurn clock verdict p s store) message-ends
   entry-ends ProcessMessage = message-ends
 
   decoded-ends : (d : Decoded) → Unread d → Ended (receive entry p) s store (decodedTurn d entry clock verdict p s store)
   unfolding decodedTurn
   decoded-ends (taken m) u = entry-ends entry
-  decoded-ends (unread n) u = refused (otherwise (receive entry p) n u)
+  decoded-ends (unread n) u = refused (otherwise (receive entry p) n refl u)
 
   receive-ends : (room : ℕ) → Ended (receive entry p) s store (receiveTurn entry clock verdict p room s store)
   unfolding receiveTurn
   receive-ends room =
-      ends-unless (asked askingPacket (length store) room s) (asked-bare askingPacket (length store) room s)
+      ends-unless refl (asked askingPacket (length store) room s) (asked-bare askingPacket (length store) room s)
       (decoded-ends (decode p) (decode-bare p))
 
 pub turn-ends :

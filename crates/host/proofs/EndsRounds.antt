@@ -33,7 +33,7 @@ use Rattle.process_timeout.specs.ProcessTimeout.{askingTimeout, processTimeoutT
 use Rattle.idle.specs.Idle.{startIn, iterated, idleRequestTurn, idleTurn}
 use Rattle.entries.specs.declared.Entry.{Entry}
 use Rattle.host.specs.Host.{HostRequest, start, receive, processTimeout}
-use Rattle.host.specs.Refusals.{RefusalLeaves, idle, unheld, unmoved, otherwise}
+use Rattle.host.specs.Refusals.{commissions, RefusalLeaves, idle, unheld, unmoved, otherwise}
 use Rattle.host.proofs.Ends.{Taken, Ended, took, refused, as-before, started, started-idle, excluded, retried, Bare, ends-unless, ends-cond}
 use Rattle.host.proofs.EndsCalls.{asked-bare}
 
@@ -62,10 +62,10 @@ module _ (clock : ℕ) (s : Coordinator) (store : List ℕ) where
   pub start-ends : (m : List ℕ) (by : Start) (room : ℕ) → Ended (start m by) s store (startTurn clock m by room s store)
   unfolding startTurn startNamed
   start-ends m by room =
-      ends-unless (asked askingStart (length store) room s) (asked-bare askingStart (length store) room s)
+      ends-unless refl (asked askingStart (length store) room s) (asked-bare askingStart (length store) room s)
       (ends-cond (leb (length m) messageLimit)
       (λ e. round-ends m by s (unheld m by) (λ f. unmoved m by) (started clock))
-      (λ e. refused (otherwise (start m by) 9 refl)))
+      (λ e. refused (otherwise (start m by) 9 refl refl)))
 
   module _ (entry : Entry) (p : List ℕ) where
     idle-request-ends :
@@ -85,18 +85,18 @@ module _ (clock : ℕ) (s : Coordinator) (store : List ℕ) where
         ends-cond (eqb (headerIn p .kind) 1) (λ f. idle-request-ends e (eqb-true _ _ f))
         (λ f. ends-cond (eqb (headerIn p .kind) 5)
         (λ g. ends-cond (eqb (headerIn p .ids .«dkg_id») (s .ids .«dkg_id»)) (λ h. took refl as-before)
-        (λ h. refused (otherwise (receive entry p) 15 refl)))
+        (λ h. refused (otherwise (receive entry p) 15 refl refl)))
         (λ g. took refl as-before))
 
   -- timeouts, of any call that tests them
-  module _ (q : HostRequest) where
+  module _ (q : HostRequest) (other : commissions q ≡ false) where
     record-bare : Bare (recordAsked s store)
     unfolding recordAsked
     record-bare = cond-both Bare (ltb (currentPlace s store) (s .records .count)) tt refl
 
     nonce-timeout-ends : Ended q s store (nonceTimeoutTurn s store)
     unfolding nonceTimeoutTurn
-    nonce-timeout-ends = ends-unless (recordAsked s store) record-bare (took refl as-before)
+    nonce-timeout-ends = ends-unless other (recordAsked s store) record-bare (took refl as-before)
 
     row-ends : (t : SignatureType) (row : SignRoundInfo) → Ended q s store (rowTurn clock t row s store)
     unfolding rowTurn excludedTurn insufficientTurn retryTurn requestTurn
@@ -107,7 +107,7 @@ module _ (clock : ℕ) (s : Coordinator) (store : List ℕ) where
 
     share-timeout-ends : (t : SignatureType) → Ended q s store (shareTimeoutTurn clock t s store)
     unfolding shareTimeoutTurn
-    share-timeout-ends t = ends-unless (recordAsked s store) record-bare (row-ends t (getD (s .records .rows) (currentPlace s store) noRow))
+    share-timeout-ends t = ends-unless other (recordAsked s store) record-bare (row-ends t (getD (s .records .rows) (currentPlace s store) noRow))
 
     pub due-ends : (due : Due) (rest : Turn) → Ended q s store rest → Ended q s store (dueTurn clock due s store rest)
     unfolding dueTurn
@@ -118,5 +118,5 @@ module _ (clock : ℕ) (s : Coordinator) (store : List ℕ) where
   pub process-timeout-ends : (room : ℕ) → Ended processTimeout s store (processTimeoutTurn clock room s store)
   unfolding processTimeoutTurn
   process-timeout-ends room =
-      ends-unless (asked askingTimeout (length store) room s) (asked-bare askingTimeout (length store) room s)
-      (due-ends processTimeout (dueOf clock s) (quietTurn s store) (took refl as-before))
+      ends-unless refl (asked askingTimeout (length store) room s) (asked-bare askingTimeout (length store) room s)
+      (due-ends processTimeout refl (dueOf clock s) (quietTurn s store) (took refl as-before))

@@ -75,7 +75,7 @@ module _ (t : SignatureType) (entry : Entry) (p : List ℕ) (s : Coordinator) (s
       (v : Verdict) → Says (shareResponseIn p) s store v → Ended (receive entry p) s store (verdictTurn t p (headerIn p) s store v)
   unfolding verdictTurn shareResponseIn
   verdict-ends Unawaited says = took refl as-before
-  verdict-ends (Wrong n got expected) says = refused (otherwise (receive entry p) n says)
+  verdict-ends (Wrong n got expected) says = refused (otherwise (receive entry p) n refl says)
   verdict-ends (Refused n r i) says = refused (waiter entry p t n r i here four (says .0) (says .1) (says .2) (says .3))
   verdict-ends (Unended r i) says = took refl (waiter-freed r i)
   verdict-ends (Good r i) says = take-ends r i

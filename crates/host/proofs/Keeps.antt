@@ -148,7 +148,7 @@ module _ {s : Coordinator} {store : List ℕ} (f : Formed s) where
   refusal-formed (unmoved m by) = formed-of (with-bytes (arrays-of f) (length-put (s .message .bytes) 0 m ∙ f .bytes))
   refusal-formed (waiter entry p t n r i e k l h place slot) = freed-formed f r i
   refusal-formed failed = formed-of (arrays-of f)
-  refusal-formed (otherwise q n c) = f
+  refusal-formed (otherwise q n o c) = f
 
   taken-formed : {q : HostRequest} {s′ : Coordinator} {store′ : List ℕ} → Taken s store q s′ store′ → GivenArrays q → Formed s′
   unfolding freshOf withResults abandoned forgotten
@@ -180,7 +180,7 @@ module _ {s : Coordinator} {store : List ℕ} where
   refusal-stored (unmoved m by) = refl
   refusal-stored (waiter entry p t n r i e k l h place slot) = refl
   refusal-stored failed = refl
-  refusal-stored (otherwise q n c) = refl
+  refusal-stored (otherwise q n o c) = refl
 
   taken-stored : {q : HostRequest} {s′ : Coordinator} {store′ : List ℕ} → Taken s store q s′ store′ → length store′ ≡ length store
   taken-stored as-before = refl

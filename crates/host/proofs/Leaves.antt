@@ -26,7 +26,7 @@ use Rattle.commission.specs.Commission.{freshOf, commissionTurn}
 use Rattle.records.specs.Records.{emptyRow, opened, openedStore, heldSlot, addedRecords, addedStore}
 use Rattle.host.specs.Host.{HostRequest, commission}
 use Rattle.host.specs.Host.{HostCall, Host, turnFor, turnOf, hostStep, Makeable}
-use Rattle.host.specs.Refusals.{changing, RefusalLeaves, commissioning, idle, unheld, gathering, unmoved, waiter, failed, otherwise}
+use Rattle.host.specs.Refusals.{changing, commissions, RefusalLeaves, commissioning, idle, unheld, gathering, unmoved, waiter, failed, otherwise}
 use Rattle.host.specs.Refusals.{Apart, RecordMade, stores}
 use Rattle.host.proofs.Ends.{Taken, as-before, fresh, key-set, results-taken, signature, all-reset, started, started-idle}
 use Rattle.host.proofs.Ends.{excluded, retried, recorded, shares-asked, waiter-freed, shares-taken, job-out, Ended, took, refused}
@@ -85,7 +85,26 @@ unchanged (waiter entry p t n r i e k l h place slot) c =
     let high : (leb 20 n ≡ true) × (leb n 23 ≡ true) = (le-leb 20 n l, le-leb n 23 (omega arith)) in
     absurd (false≢true (sym (rw (past .0, past .1, other .0, other .1, high .0, high .1) at c)))
 unchanged failed c = absurd (false≢true (sym c))
-unchanged (otherwise q n e) c = (refl, refl)
+unchanged (otherwise q n o e) c = (refl, refl)
+
+-- commissioning is refused with 1 to 3, and then something differs
+uncommissioning : {q : HostRequest} {n : ℕ} {s s′ : Coordinator} {store store′ : List ℕ} → RefusalLeaves s store q n s′ store′ → changing n ≡ false → commissions q ≡ false
+uncommissioning (commissioning g n l h) c = absurd (false≢true (sym (rw (le-leb 1 n l, le-leb n 3 h) at c)))
+uncommissioning (idle entry p e k) c = refl
+uncommissioning (unheld m by) c = refl
+uncommissioning (gathering entry p t r i e k place slot) c = refl
+uncommissioning (unmoved m by) c = refl
+uncommissioning (waiter entry p t n r i e k l h place slot) c = refl
+uncommissioning failed c = refl
+uncommissioning (otherwise q n o e) c = o
+
+-- a turn that is refused so is not commissioning's, and leaves the struct and the lent bytes
+pub turn-unchanged :
+    (k : HostCall) (x : Host) (n : ℕ) → turnOf k x .answer .number ≡ suc n → changing (suc n) ≡ false
+    → (commissions (k .request) ≡ false) × ((turnOf k x .after ≡ x .struct) × (turnOf k x .store ≡ take (k .lent) (x .store)))
+turn-unchanged k x n e c =
+    let r = refusal (ended k x) e in
+    (uncommissioning r c, unchanged r c)
 
 pub host-refusal-nothing :
     (k : HostCall) (x : Host) (n : ℕ) → turnOf k x .answer .number ≡ suc n → changing (suc n) ≡ false → hostStep k x ≡ x
@@ -182,7 +201,7 @@ refusal-stores (gathering entry p t r i e k place slot) c = absurd (false≢true
 refusal-stores (unmoved m by) c = refl
 refusal-stores (waiter entry p t n r i e k l h place slot) c = refl
 refusal-stores failed c = refl
-refusal-stores (otherwise q n e) c = refl
+refusal-stores (otherwise q n o e) c = refl
 
 taken-stores :
     {q : HostRequest} {s s′ : Coordinator} {store store′ : List ℕ} → Taken s store q s′ store′ → stores q ≡ false → store′ ≡ store

@@ -30,8 +30,8 @@ use Rattle.step_definition.specs.Effects.{rootFor}
 use Rattle.step_definition.specs.Starts.{startRound}
 use Rattle.step_definition.specs.Step.{own, onHeld, stepOf, step}
 use Rattle.step_definition.specs.Run.{final}
-use Rattle.step_definition.specs.Rounds.{ready, nine, answers, q0, q1, request9}
-use Rattle.step_definition.specs.Kept.{opener, opened9}
+use Rattle.step_definition.specs.rounds.Rounds.{ready, nine, answers, q0, q1, request9}
+use Rattle.step_definition.specs.rounds.Kept.{opener, opened9}
 use Rattle.step_definition.specs.Demand3.{Plain, openedBy, firstShareRequest}
 use Rattle.step_definition.specs.ResponseLog.{Opened, firstNamed, empty}
 use Rattle.step_definition.proofs.Answers.{nonce-request-answer}

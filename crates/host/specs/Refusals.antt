@@ -52,6 +52,18 @@ waiterOff r i rs =
     let row = getD (rs .rows) r noRow in
     setRow r (setSlot i (unawaited (getD (row .slots) i noSlot)) row) rs
 
+-- whether a call is commissioning, which is asked 1 to 3 and nothing else
+abbrev pub commissions : HostRequest → Bool
+commissions (commission g) = true
+commissions (setKey which held) = false
+commissions (takeResults dkg ended) = false
+commissions (canMove next root) = false
+commissions (start m by) = false
+commissions (receive entry p) = false
+commissions processTimeout = false
+commissions (aggregated ok) = false
+commissions reset = false
+
 -- the struct and the lent store after a call that was refused with this number; s and store are those before it
 pub data RefusalLeaves (s : Coordinator) (store : List ℕ) : HostRequest → ℕ → Coordinator → List ℕ → Type 0 where
   -- "After 1 to 3 the state is uncommissioned and the store untouched."
@@ -83,7 +95,7 @@ pub data RefusalLeaves (s : Coordinator) (store : List ℕ) : HostRequest → �
   -- "23, the job is no longer out"
   failed : RefusalLeaves s store (aggregated false) 23 (setJob false s) store
   -- "Otherwise nothing."
-  otherwise : (q : HostRequest) (n : ℕ) → changing n ≡ false → RefusalLeaves s store q n s store
+  otherwise : (q : HostRequest) (n : ℕ) → commissions q ≡ false → changing n ≡ false → RefusalLeaves s store q n s store
 
 -- the n bytes from `at` on lie before the `size` bytes from b on, or behind them
 abbrev pub Apart : ℕ → ℕ → ℕ → ℕ → Type 0

@@ -11,9 +11,9 @@ use Rattle.layout.specs.declared.SignatureType.the-variants.{Frost}
 use Rattle.layout.specs.Messages.{nonceRequest, nonceResponse, signatureShareRequest}
 use Rattle.layout.specs.Encode.{encode}
 use Rattle.validity.specs.Keys.{keyOf}
-use Rattle.step_definition.specs.Rounds.{nine, q0, q1, request9, shares9}
-use Rattle.step_definition.specs.Kept.{opened9}
-use Rattle.state.specs.declared.fields.Reading.the-variants.{Never, At}
+use Rattle.step_definition.specs.rounds.Rounds.{nine, q0, q1, request9, shares9}
+use Rattle.step_definition.specs.rounds.Kept.{opened9}
+use Rattle.state.specs.declared.fields.Reading.the-variants.{At}
 use Rattle.configuration.specs.declared.new_config.NewSigner.{NewSigner}
 use Rattle.configuration.specs.declared.new_config.NewConfig.{NewConfig}
 use Rattle.calls.specs.declared.held_keys.HeldKey.the-variants as Which
@@ -38,9 +38,9 @@ exampleGiven =
       «num_signers» = 3;
       «num_keys» = 4;
       threshold = 3;
-      «dkg_threshold» = 4;
+      «dkg_threshold» = 9;
       «sign_threshold» = 3;
-      timeouts = record { «dkg_public» = Never; «dkg_private» = Never; «dkg_end» = Never; nonce = At 10; sign = At 10 };
+      timeouts = record { «dkg_public» = At 6; «dkg_private» = At 7; «dkg_end» = At 8; nonce = At 10; sign = At 10 };
       signers = signer 0 (1 ∷ []) ∷ signer 1 (2 ∷ 3 ∷ []) ∷ signer 2 (4 ∷ []) ∷ replicate 8 (signer 0 []);
       count = 3;
       «verify_packet_sigs» = true;

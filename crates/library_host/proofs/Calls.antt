@@ -1,6 +1,6 @@
 -- The library's calls are a host's: what they answer and leave is what its struct and store would.
 -- Assumes nothing.
-use Prim.Native.Nat.{ℕ, _≤_}
+use Prim.Native.Nat.{ℕ, suc, _≤_}
 use mathlib.Core.Path.{_≡_, refl, sym, ap, subst, _∙_}
 use mathlib.Core.Bool.{Bool, true, false, cond}
 use mathlib.Core.List.{List, [], _∷_, _++_, map}
@@ -24,6 +24,8 @@ use Rattle.state_bytes.proofs.Loads.{unsaved-loaded, unsaved-uncommissioned}
 use Rattle.state_bytes.proofs.Front.{loaded-front}
 use Rattle.interface.specs.Configs.{isYes}
 use Rattle.host.specs.Host.{HostCall, Host, turnFor, turnOf, hostStep, viewed, hostRun, hostFinal, asCall, GivenArrays, Makeable}
+use Rattle.host.specs.Refusals.{changing}
+use Rattle.host.proofs.Leaves.{turn-unchanged}
 use Rattle.host.proofs.Lent.{short-asked}
 use Rattle.host.proofs.Refines.{step-formed, run-refines}
 use Rattle.library_host.specs.Library.{Buffers, counted, LibraryCall, requestOf, isSaid, commissions, libraryTurn, saves, Made, Ran}
@@ -127,6 +129,20 @@ module _ (k : LibraryCall) (b : Buffers) {answer : A.Answer} {b′ : Buffers} (m
     pub taken-step : counted b′ ≡ hostStep (hostCall k) (counted b)
     unfolding hostStep
     taken-step = rw (after, m .store-beyond, m .gave .stored, taken-turn)
+
+    -- a refusal after which nothing differs leaves every byte as it was
+    pub taken-kept : {n : ℕ} → turnOf (hostCall k) (counted b) .answer .number ≡ suc n → changing (suc n) ≡ false → b′ ≡ b
+    unfolding saves
+    taken-kept {n} e quiet =
+        let same = turn-unchanged (hostCall k) (counted b) n e quiet in
+        let front = loaded-front (k .state) (b .state) (fits .1) in
+        let left : turn .after ≡ loaded lent = ap (λ (t : Turn). t .after) taken-turn ∙ same .1 .0 ∙ sym front in
+        let other : commissions (k .request) ≡ false = same .0 in
+        let state : b′ .state ≡ b .state =
+        m .state-beyond ∙ rw ((rw (left, other) at (m .gave .kept)) ∙ resaved lent) (take-append-drop (k .state) (b .state)) in
+        let stays : m .store′ ≡ stored = m .gave .stored ∙ ap (λ (t : Turn). t .store) taken-turn ∙ same .1 .1 in
+        let store : b′ .store ≡ b .store = m .store-beyond ∙ rw stays (take-append-drop (k .lent) (b .store)) in
+        λ i. record { state = state i; store = store i }
 
   pub library-answer :
       answer ≡ given (outright k) (λ (n : ℕ). A.refusing A.error n []) (turnOf (hostCall k) (counted b) .answer)

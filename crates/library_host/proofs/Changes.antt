@@ -5,7 +5,7 @@ use mathlib.Core.Path.{_≡_, refl, sym, ap, subst, _∙_}
 use mathlib.Core.Bool.{true, false}
 use mathlib.Core.List.{List, [], _∷_, map}
 use mathlib.Core.Option.{Option, some, none}
-use lib.ListN.{length, getD}
+use lib.ListN.{length, getD, take, drop}
 use Rattle.wire.specs.Bytes.{All}
 use Rattle.validity.specs.Keys.{member}
 use Rattle.step_definition.specs.Lists.{given}
@@ -17,12 +17,15 @@ use Rattle.step_definition.specs.Silence.{unasked, watched, isCommission}
 use Rattle.step_definition.proofs.Silence.{Adds}
 use Rattle.host.specs.Host.{HostCall, Host, turnOf, hostStep, hostFinal, viewed, asRequest, asCall, Makeable}
 use Rattle.host.specs.Demand3.{HostBegins}
+use Rattle.host.specs.Refusals.{changing, RefusalLeaves}
+use Rattle.host.proofs.Leaves.{host-refusal-leaves}
+use Rattle.state_bytes.specs.Loaded.{loaded}
 use Rattle.host.specs.Demand3 as H
 use Rattle.host.proofs.Demands.{host-refusal-changes, host-malicious-kept, host-malicious-grows, host-only-the-silent}
 use Rattle.interface.specs.Configs.{configOf}
 use Rattle.library_host.specs.Library.{Buffers, counted, LibraryCall, requestOf, Made, Ran, outright, hostCall, lendingNothing, asHost}
 use Rattle.library_host.specs.Library.{LibraryBegins, commissioning, opening}
-use Rattle.library_host.proofs.Calls.{outright-kept, taken-answer, library-bytes, library-step, library-makeable, library-run, library-all-makeable, ran-length}
+use Rattle.library_host.proofs.Calls.{outright-kept, taken-answer, taken-step, taken-kept, library-bytes, library-step, library-makeable, library-run, library-all-makeable, ran-length}
 use Rattle.library_host.proofs.Formed.{loaded-formed}
 
 -- a timeout that is refused changes nothing of what is held
@@ -54,6 +57,27 @@ module _ (k : LibraryCall) (b : Buffers) {a : A.Answer} {c : Buffers} (m : Made 
           let told = host-refusal-changes (hostCall k) (counted b) (loaded-formed (b .state)) (subst (Makeable (length (b .store))) same (library-makeable k b m)) n
           (sym (ap (λ (x : A.Answer). x .number) t) ∙ e) in
           (ap viewed (library-step k b m ∙ ap (λ (h : HostCall). hostStep h (counted b)) same) ∙ told .0, ap (λ (x : A.Answer). x .bytes) t ∙ told .1)
+
+  -- a refusal leaves of the struct that the bytes count as, and of the lent bytes of the store, exactly what `RefusalLeaves` says; the others stay
+  pub library-refusal-leaves :
+      outright k ≡ none → (n : ℕ) → a .number ≡ suc n
+      → RefusalLeaves (loaded (b .state)) (take (k .lent) (b .store)) (requestOf (k .request)) (suc n) (loaded (c .state)) (take (k .lent) (c .store))
+      × (drop (k .lent) (c .store) ≡ drop (k .lent) (b .store))
+  unfolding asHost
+  library-refusal-leaves is n e =
+      let made : Makeable (length (b .store)) (hostCall k) = record { given = m .arrays; lent = m .lends-store } in
+      let number = sym (ap (λ (x : A.Answer). x .number) (taken-answer k b m is)) ∙ e in
+      subst (λ (x : Host). RefusalLeaves (loaded (b .state)) (take (k .lent) (b .store)) (requestOf (k .request)) (suc n) (x .struct) (take (k .lent) (x .store))
+      × (drop (k .lent) (x .store) ≡ drop (k .lent) (b .store))) (sym (taken-step k b m is))
+      (host-refusal-leaves (hostCall k) (counted b) made n number)
+
+  -- "Otherwise nothing": every byte of state and store is as it was
+  pub library-refusal-nothing : (n : ℕ) → a .number ≡ suc n → changing (suc n) ≡ false → c ≡ b
+  library-refusal-nothing n e quiet = by (outright k) refl
+    where
+      by : (o : Option ℕ) → outright k ≡ o → c ≡ b
+      by (some r) is = outright-kept k b m r is .1
+      by none is = taken-kept k b m is (sym (ap (λ (x : A.Answer). x .number) (taken-answer k b m is)) ∙ e) quiet
 
   -- only a share timeout adds to the malicious, only commissioning removes
   pub library-malicious-kept :

@@ -13,7 +13,7 @@ use Rattle.starting.specs.Given.{startedTurn, movedTurn}
 use Rattle.commissioning.specs.Commissioned.{commissionedTurn}
 use Rattle.interface.specs.declared.answers.RcAnswer.{RcAnswer}
 use Rattle.interface.specs.declared.configs.RcConfig.{RcConfig}
-use Rattle.host.specs.Host.{turnFor, asRequest}
+use Rattle.host.specs.Host.{turnFor}
 use Rattle.host.proofs.Contracts.{at, promising}
 use Rattle.roundcabinet.proofs.rc_commission as rc_commission
 use Rattle.roundcabinet.proofs.rc_set_coordinator_key as rc_set_coordinator_key
@@ -39,48 +39,48 @@ module _ (w : World) (state store : RefT (List ℕ)) where
         (κs : Lfts 2) (g : RcConfig)
         → at w rc_commission.clauses κs (state, (store, (g, tt)))
         ≡ promising w rc_commission.ended κs (λ r e. Plain (commission g) r (now (e .0)) (now (e .1 .0)))
-    unfolding libraryTurn isSaid saves requestOf asRequest turnFor commissionedTurn
+    unfolding libraryTurn isSaid saves requestOf turnFor commissionedTurn
     commission-is κs g = refl
 
     pub set-coordinator-key-is :
         (κs : Lfts 2) (held : ℕ)
         → at w rc_set_coordinator_key.clauses κs (state, (store, (held, tt)))
         ≡ promising w rc_set_coordinator_key.ended κs (λ r e. Plain (setKey Which.Coordinator held) r (now (e .0)) (now store))
-    unfolding libraryTurn isSaid saves requestOf asRequest turnFor
+    unfolding libraryTurn isSaid saves requestOf turnFor
     set-coordinator-key-is κs held = refl
 
     pub set-group-key-is :
         (κs : Lfts 2) (held : ℕ)
         → at w rc_set_group_key.clauses κs (state, (store, (held, tt)))
         ≡ promising w rc_set_group_key.ended κs (λ r e. Plain (setKey Which.Aggregate held) r (now (e .0)) (now store))
-    unfolding libraryTurn isSaid saves requestOf asRequest turnFor
+    unfolding libraryTurn isSaid saves requestOf turnFor
     set-group-key-is κs held = refl
 
     pub take-results-is :
         (κs : Lfts 3) (dkg : ℕ) (ended : RefT (List ℕ))
         → at w rc_take_results.clauses κs (state, (store, (dkg, (ended, tt))))
         ≡ promising w rc_take_results.ended κs (λ r e. Plain (takeResults dkg (now ended)) r (now (e .0)) (now store))
-    unfolding libraryTurn isSaid saves requestOf asRequest turnFor
+    unfolding libraryTurn isSaid saves requestOf turnFor
     take-results-is κs dkg ended = refl
 
     pub aggregated-is :
         (κs : Lfts 2) (ok : ℕ)
         → at w rc_aggregated.clauses κs (state, (store, (ok, tt)))
         ≡ promising w rc_aggregated.ended κs (λ r e. Plain (aggregated ok) r (now (e .0)) (now store))
-    unfolding libraryTurn isSaid saves requestOf asRequest turnFor
+    unfolding libraryTurn isSaid saves requestOf turnFor
     aggregated-is κs ok = refl
 
     pub reset-is :
         (κs : Lfts 2)
         → at w rc_reset.clauses κs (state, (store, tt)) ≡ promising w rc_reset.ended κs (λ r e. Plain reset r (now (e .0)) (now store))
-    unfolding libraryTurn isSaid saves requestOf asRequest turnFor
+    unfolding libraryTurn isSaid saves requestOf turnFor
     reset-is κs = refl
 
     pub can-move-to-is :
         (κs : Lfts 3) (next t : ℕ) (root : RefT (List ℕ))
         → at w rc_can_move_to.clauses κs (state, (store, (next, (t, (root, tt)))))
         ≡ promising w rc_can_move_to.ended κs (λ r e. Plain (canMoveTo next t (now root)) r (now (e .0)) (now store))
-    unfolding libraryTurn isSaid saves requestOf asRequest turnFor movedTurn
+    unfolding libraryTurn isSaid saves requestOf turnFor movedTurn
     can-move-to-is κs next t root = refl
 
   -- calls that are lent one
@@ -93,7 +93,7 @@ module _ (w : World) (state store : RefT (List ℕ)) where
         → at w rc_start_signing_round.clauses κs (state, (store, (out, (clock, (message, (t, (root, (given, (id, tt)))))))))
         ≡ promising w rc_start_signing_round.ended κs
         (λ r e. Writes (startSigningRound (now message) t (now root) given id) verdict r (now (e .0)) (now store) (now (e .1 .1 .0)))
-    unfolding libraryTurn isSaid saves requestOf asRequest turnFor startedTurn
+    unfolding libraryTurn isSaid saves requestOf turnFor startedTurn
     start-signing-round-is κs verdict message t root given id = refl
 
     pub process-is :
@@ -101,7 +101,7 @@ module _ (w : World) (state store : RefT (List ℕ)) where
         → at w rc_process.clauses κs (state, (store, (out, (clock, (verdict, (packet, tt))))))
         ≡ promising w rc_process.ended κs
         (λ r e. Writes (receive Process (now packet)) verdict r (now (e .0)) (now (e .1 .0)) (now (e .1 .1 .0)))
-    unfolding libraryTurn isSaid saves requestOf asRequest turnFor
+    unfolding libraryTurn isSaid saves requestOf turnFor
     process-is κs verdict packet = refl
 
     pub process-message-is :
@@ -109,12 +109,12 @@ module _ (w : World) (state store : RefT (List ℕ)) where
         → at w rc_process_message.clauses κs (state, (store, (out, (clock, (verdict, (packet, tt))))))
         ≡ promising w rc_process_message.ended κs
         (λ r e. Writes (receive ProcessMessage (now packet)) verdict r (now (e .0)) (now (e .1 .0)) (now (e .1 .1 .0)))
-    unfolding libraryTurn isSaid saves requestOf asRequest turnFor
+    unfolding libraryTurn isSaid saves requestOf turnFor
     process-message-is κs verdict packet = refl
 
     pub process-timeout-is :
         (κs : Lfts 3) (verdict : ℕ)
         → at w rc_process_timeout.clauses κs (state, (store, (out, (clock, tt))))
         ≡ promising w rc_process_timeout.ended κs (λ r e. Writes processTimeout verdict r (now (e .0)) (now store) (now (e .1 .1 .0)))
-    unfolding libraryTurn isSaid saves requestOf asRequest turnFor
+    unfolding libraryTurn isSaid saves requestOf turnFor
     process-timeout-is κs verdict = refl

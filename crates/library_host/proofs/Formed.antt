@@ -23,7 +23,7 @@ use Rattle.interface.specs.declared.configs.RcConfig.{RcConfig}
 use Rattle.interface.specs.Configs.{configOf}
 use Rattle.interface.proofs.configs.RcConfig as RcConfig-row
 use Rattle.starting.specs.Given.{rootGiven}
-use Rattle.host.specs.Host.{Formed, GivenArrays, asRequest}
+use Rattle.host.specs.Host.{Formed, GivenArrays}
 use Rattle.host.specs.Demand3.{Fits}
 use Rattle.library_host.specs.Library.{LibraryRequest, commission, setKey, takeResults, startSigningRound, receive, processTimeout, aggregated, reset, canMoveTo}
 use Rattle.library_host.specs.Library.{requestOf, commissions}
@@ -101,7 +101,7 @@ config-arrays g vs h =
     rw (length-map, n)
 
 pub other-arrays : (q : LibraryRequest) → commissions q ≡ false → GivenArrays (requestOf q)
-unfolding requestOf asRequest
+unfolding requestOf
 other-arrays (commission g) e = let z : _≡_ {A = ℕ} 0 1 = cc in let f : ⊥ = omega arith in absurd f
 other-arrays (setKey which held) e = tt
 other-arrays (takeResults dkg ended) e = tt

@@ -20,7 +20,6 @@ use Rattle.state_bytes.specs.Loaded.{isSaved, loaded, unsaved}
 use Rattle.state_bytes.proofs.Loads.{unsaved-loaded, unsaved-uncommissioned, saved-bytes}
 use Rattle.state_bytes.proofs.Front.{short-unsaved}
 use Rattle.interface.specs.Configs.{isYes}
-use Rattle.host.specs.Host.{asRequest}
 use Rattle.library_host.specs.Library.{LibraryRequest, commission, setKey, takeResults, startSigningRound, receive, processTimeout, aggregated, reset, canMoveTo}
 use Rattle.library_host.specs.Library.{LibraryCall, requestOf, isSaid, commissions, libraryTurn, saves, outright}
 use Rattle.library_host.proofs.Unsaved.{uncommissioned-turn}
@@ -42,7 +41,7 @@ outright-case k = by (isSaid (k .request)) refl (leb stateLength (k .state)) ref
 
 -- commissioning says nothing that 01's can't
 unsaid-other : (q : LibraryRequest) → isSaid q ≡ false → commissions q ≡ false
-unfolding isSaid requestOf asRequest
+unfolding isSaid requestOf
 unsaid-other (commission g) e = let z : _≡_ {A = ℕ} 0 1 = cc in let f : ⊥ = omega arith in absurd f
 unsaid-other (setKey which held) e = refl
 unsaid-other (takeResults dkg ended) e = refl

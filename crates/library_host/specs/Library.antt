@@ -11,7 +11,6 @@ use Rattle.layout.specs.Types.{typeOf}
 use Rattle.step_definition.specs.Lists.{given}
 use Rattle.step_definition.specs.Calls as A
 use Rattle.step_definition.specs.Run.{Seen, maliciousIn}
-use Rattle.step_definition.specs.Silence.{isCommission}
 use Rattle.state.specs.Turns.{Turn, errorTurn}
 use Rattle.calls.specs.declared.held_keys.HeldKey.{HeldKey}
 use Rattle.entries.specs.declared.Entry.{Entry}
@@ -24,7 +23,8 @@ use Rattle.interface.specs.Called.{Called}
 use Rattle.interface.specs.Configs.{configOf, isYes}
 use Rattle.starting.specs.Given.{lastState, typeSaid, rootGiven, signIdGiven}
 use Rattle.host.specs.Host as H
-use Rattle.host.specs.Host.{HostRequest, HostCall, Host, turnFor, viewed, asRequest, GivenArrays}
+use Rattle.host.specs.Host.{HostRequest, HostCall, Host, turnFor, viewed, GivenArrays}
+use Rattle.host.specs.Refusals as R
 use Rattle.host.specs.Demand3.{Written, later}
 
 -- what a host of the library holds between calls
@@ -86,7 +86,7 @@ isSaid (canMoveTo next t root) = leb next lastState && typeSaid t root
 
 -- commissioning is the one call that takes bytes that no save left
 abbrev pub commissions : LibraryRequest → Bool
-commissions q = isCommission (asRequest (requestOf q))
+commissions q = R.commissions (requestOf q)
 
 -- what a call gives, as its contract says, of the bytes of state and store that are lent
 unfoldable pub libraryTurn : LibraryRequest → ℕ → ℕ → ℕ → List ℕ → List ℕ → Turn

@@ -13,3 +13,4 @@ pub mod Shape
 pub mod Refines
 pub mod Limits
 pub mod Moves
+pub mod Rounds

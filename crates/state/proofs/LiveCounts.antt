@@ -10,17 +10,14 @@ use lib.Dec.{leb}
 use lib.ListN.{getD, take}
 use Rattle.wire.specs.Bytes.{every}
 use Rattle.wire.proofs.Lists.{and-left, and-right, and-both}
-use Rattle.layout.specs.Limits.{messageLimit, listLimit, signerLimit, recordLimit}
-use Rattle.state.specs.declared.fields.SignerEntry.{SignerEntry}
-use Rattle.state.specs.declared.fields.ResponseSlot.{ResponseSlot}
-use Rattle.state.specs.declared.fields.SignRoundInfo.{SignRoundInfo}
+use Rattle.layout.specs.Limits.{listLimit, signerLimit}
 use Rattle.state.specs.declared.fields.ShareSlot.{ShareSlot}
 use Rattle.state.specs.declared.fields.Coordinator.{Coordinator}
 use Rattle.state.specs.Counts.{sum, entries, entryWithin, keyCount, configWithin, slotWithin, rowWithin, recordsWithin, sharesWithin, isWithin}
 use Rattle.state.specs.View.{noEntry, noRow, noSlot, noShares}
 use Rattle.state.specs.LiveCounts.{total, signerAt, responseSlot, shareSlot, LiveCounts}
 use Rattle.state.proofs.Arrays.{every-get}
-use Rattle.state.proofs.Within.{Within, within, is-within, config-few, entries-within, keys-few, records-few, rows-within, slot-few, row-slot, row-message}
+use Rattle.state.proofs.Within.{within, is-within, config-few, entries-within, keys-few, records-few, rows-within, slot-few, row-slot, row-message}
 
 -- each of the first n passes
 get-every :
@@ -65,7 +62,9 @@ held-passes : (b t : Bool) → cond b t true ≡ true → b ≡ true → t ≡ t
 held-passes true t w e = w
 held-passes false t w e = absurd (false≢true e)
 
-share-few : (x : ShareSlot) → sharesWithin x ≡ true → x .held ≡ true → (x .count ≤ listLimit) × (sum (take (x .count) (x .«key_counts»)) ≤ listLimit)
+share-few :
+    (x : ShareSlot) → sharesWithin x ≡ true → x .held ≡ true
+    → (x .count ≤ listLimit) × (sum (take (x .count) (x .«key_counts»)) ≤ listLimit)
 unfolding sharesWithin
 share-few x w h =
     let c = leb (x .count) listLimit in
@@ -90,19 +89,21 @@ module _ (s : Coordinator) where
   pub counts-hold : isWithin s ≡ true → LiveCounts s
   unfolding entries entryWithin sharesWithin rowWithin
   counts-hold e =
+      let n = s .config .count in
       let w = within s e in
-      let row : (r : ℕ) → r < s .records .count → rowWithin (s .config .count) (getD (s .records .rows) r noRow) ≡ true =
-      λ r l. every-get (rowWithin (s .config .count)) (s .records .count) (s .records .rows) r noRow l (no-row (s .config .count)) (rows-within s w) in
+      let row : (r : ℕ) → r < s .records .count → rowWithin n (getD (s .records .rows) r noRow) ≡ true =
+      λ r l. every-get (rowWithin n) (s .records .count) (s .records .rows) r noRow l (no-row n) (rows-within s w) in
       record {
         signers = config-few s w;
-        key-sets = λ i l h. leb-true _ _ (held-passes _ _ (every-get entryWithin (s .config .count) (s .config .signers) i noEntry l refl (entries-within s w)) h);
+        key-sets = λ i l h. leb-true _ _
+            (held-passes _ _ (every-get entryWithin n (s .config .signers) i noEntry l refl (entries-within s w)) h);
         sizes = rw (← size-places) (keys-few s w);
         message = leb-true _ _ (w .message);
         records = records-few s w;
-        messages = λ r l. row-message (s .config .count) (getD (s .records .rows) r noRow) (row r l);
-        responses = λ r i l m h. slot-few (responseSlot s r i) (row-slot (s .config .count) i (getD (s .records .rows) r noRow) (row r l) m) h;
+        messages = λ r l. row-message n (getD (s .records .rows) r noRow) (row r l);
+        responses = λ r i l m h. slot-few (responseSlot s r i) (row-slot n i (getD (s .records .rows) r noRow) (row r l) m) h;
         shares = λ i l h.
-            let few = share-few (shareSlot s i) (every-get sharesWithin (s .config .count) (s .shares .slots) i noShares l refl (w .shares)) h in
+            let few = share-few (shareSlot s i) (every-get sharesWithin n (s .shares .slots) i noShares l refl (w .shares)) h in
             (few .0, rw (← sum-places (shareSlot s i .count) (shareSlot s i .«key_counts»)) (few .1));
       }
 
@@ -117,7 +118,8 @@ module _ (s : Coordinator) where
       (λ h. and-both _ _ (le-leb _ _ (c .responses r i l m h .0)) (le-leb _ _ (c .responses r i l m h .1))) in
       let row : (r : ℕ) → r < s .records .count → rowWithin n (getD (s .records .rows) r noRow) ≡ true =
       λ r l. and-both _ _ (le-leb _ _ (c .messages r l)) (get-every slotWithin n _ noSlot (λ i m. slot r i l m)) in
-      let keys : (i : ℕ) (l : i < n) (h : shareSlot s i .held ≡ true) → sum (take (shareSlot s i .count) (shareSlot s i .«key_counts»)) ≤ listLimit =
+      let keys :
+      (i : ℕ) → i < n → shareSlot s i .held ≡ true → sum (take (shareSlot s i .count) (shareSlot s i .«key_counts»)) ≤ listLimit =
       λ i l h. rw (sum-places (shareSlot s i .count) (shareSlot s i .«key_counts»)) (c .shares i l h .1) in
       let held : (i : ℕ) → i < n → sharesWithin (shareSlot s i) ≡ true =
       λ i l. when-held (shareSlot s i .held) _ (λ h. and-both _ _ (le-leb _ _ (c .shares i l h .0)) (le-leb _ _ (keys i l h))) in

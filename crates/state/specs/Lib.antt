@@ -5,3 +5,4 @@ pub mod View
 pub mod LiveCounts
 pub mod Setters
 pub mod Turns
+pub mod Rounds

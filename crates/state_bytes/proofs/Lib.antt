@@ -4,3 +4,4 @@ pub mod Back
 pub mod AllSaves
 pub mod Loads
 pub mod Front
+pub mod Table

@@ -3,3 +3,4 @@ pub mod Places
 pub mod Saved
 pub mod Fits
 pub mod Loaded
+pub mod Table

@@ -19,6 +19,7 @@ pub mod EqualFutures
 pub mod Entries
 pub mod Following
 pub mod NextShareRequest
+pub mod PlainCalls
 pub mod Answers
 pub mod EqualBytes
 pub mod Limited

@@ -21,8 +21,12 @@ unfolding waiterVerdict shareResponseIn
 returns-2 c =
     let awaited = c .before .before .before .before .before in
     let start = awaited .before .before .before .before in
-    rw (← start .pre .0 .header, ← awaited .before .is-awaited .ensures,
-    not-false (awaited .before .is-awaited .result) (awaited .if1 .left), ne-eqb _ _ (c .if2 .taken))
+    rw (
+      ← start .pre .0 .header,
+      ← awaited .before .is-awaited .ensures,
+      not-false (awaited .before .is-awaited .result) (awaited .if1 .left),
+      ne-eqb _ _ (c .if2 .taken),
+    )
 
 is-same-round-requires : tie.Need-is-same-round-requires
 is-same-round-requires c κs = search needs
@@ -33,9 +37,13 @@ returns-3 c =
     let current = c .before .before in
     let awaited = current .before .before .before .before .before in
     let start = awaited .before .before .before .before in
-    rw (← start .pre .0 .header, ← awaited .before .is-awaited .ensures,
-    not-false (awaited .before .is-awaited .result) (awaited .if1 .left), eq-eqb _ _ (current .if2 .left),
-    says-no (c .before .is-same-round .ensures) (c .if3 .taken))
+    rw (
+      ← start .pre .0 .header,
+      ← awaited .before .is-awaited .ensures,
+      not-false (awaited .before .is-awaited .result) (awaited .if1 .left),
+      eq-eqb _ _ (current .if2 .left),
+      says-no (c .before .is-same-round .ensures) (c .if3 .taken),
+    )
 
 shares-verdict-requires : tie.Need-shares-verdict-requires
 shares-verdict-requires c κs = search needs
@@ -46,9 +54,13 @@ returns-4 c =
     let current = c .before .before .before in
     let awaited = current .before .before .before .before .before in
     let start = awaited .before .before .before .before in
-    rw (← start .pre .0 .header, ← awaited .before .is-awaited .ensures,
-    not-false (awaited .before .is-awaited .result) (awaited .if1 .left), eq-eqb _ _ (current .if2 .left),
-    says-yes (c .before .before .is-same-round .ensures) (c .before .if3 .left))
+    rw (
+      ← start .pre .0 .header,
+      ← awaited .before .is-awaited .ensures,
+      not-false (awaited .before .is-awaited .result) (awaited .if1 .left),
+      eq-eqb _ _ (current .if2 .left),
+      says-yes (c .before .before .is-same-round .ensures) (c .before .if3 .left),
+    )
     (c .shares-verdict .ensures)
 
 pub waiter-verdict-spec : {M : Type 1} → statement M

@@ -14,9 +14,9 @@ use Rattle.state_table.specs.States.{position}
 use Rattle.step_definition.specs.Configuration.{Config, SignerConfig}
 use Rattle.step_definition.specs.Calls.{process, processMessage, coordinatorKey, aggregateKey, commission, Call, other}
 use Rattle.step_definition.specs.Calls.{Operation, setKey, takeResults, canMove, startSigning, receive, processTimeout, aggregated, reset}
-use Rattle.step_definition.specs.Rounds.{signer, configuration, example, lending, at, sends, starts, idsOf, nine, five, q0}
-use Rattle.step_definition.specs.Rounds.{shares0, shares1, request, ready, begun, gathered}
-use Rattle.step_definition.specs.Rounds.{nothingTold, refuses, saying, noncesAsked, recordedOf, _⇒_, left, left9, Round, round}
+use Rattle.step_definition.specs.rounds.Rounds.{signer, configuration, example, lending, at, sends, starts, idsOf, nine, five, q0}
+use Rattle.step_definition.specs.rounds.Rounds.{shares0, shares1, request, ready, begun, gathered}
+use Rattle.step_definition.specs.rounds.Rounds.{nothingTold, refuses, saying, noncesAsked, recordedOf, _⇒_, left, left9, Round, round}
 
 -- a call with these lengths of store and answer buffer, at clock 0
 abbrev lends : ℕ → ℕ → Operation → Call
@@ -59,7 +59,7 @@ abbrev pub elevenSigners : Round
 elevenSigners = refusesTo 1 (having 0 (map keyless (ten ++ (10 ∷ []))))
 
 abbrev pub idTwice : Round
-idTwice = refusesTo 1 (having 4 (signer 3 (1 ∷ []) ∷ signer 2 (2 ∷ []) ∷ signer 3 (3 ∷ []) ∷ []))
+idTwice = refusesTo 1 (having 4 (signer 1 [] ∷ signer 3 (1 ∷ []) ∷ signer 2 (2 ∷ []) ∷ signer 3 (3 ∷ []) ∷ []))
 
 -- "Every key set at most 16 keys, none twice (2)?" Two signers may have the same key
 abbrev pub sixteenKeys : Round
@@ -69,7 +69,7 @@ abbrev pub seventeenKeys : Round
 seventeenKeys = refusesTo 2 (having 20 (signer 1 (7 ∷ []) ∷ signer 0 (sixteen ++ (16 ∷ [])) ∷ []))
 
 abbrev pub keyTwice : Round
-keyTwice = refusesTo 2 (having 4 (signer 0 (1 ∷ []) ∷ signer 1 (2 ∷ 3 ∷ 2 ∷ []) ∷ []))
+keyTwice = refusesTo 2 (having 5 (signer 0 (1 ∷ []) ∷ signer 1 (4 ∷ 2 ∷ 3 ∷ 2 ∷ []) ∷ []))
 
 -- "Set sizes together at most num_keys (3)?" A key of two signers counts twice
 abbrev pub sizesAtMost : Round

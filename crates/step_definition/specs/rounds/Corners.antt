@@ -11,11 +11,11 @@ use Rattle.layout.specs.Messages.{NonceResponse, SignatureShare, nonceRequest, 
 use Rattle.step_definition.specs.Configuration.{Config, SignerConfig}
 use Rattle.step_definition.specs.Calls.{Call}
 use Rattle.step_definition.specs.Calls.{takeResults, processTimeout, aggregated, reset}
-use Rattle.step_definition.specs.Rounds.{signer, configuration, three, at, sends, processes, starts, idsOf, ids, nine, five, root, good}
-use Rattle.step_definition.specs.Rounds.{responseOf, respond, q0, q1, q2, under, to, answers, share, sharesOf, shares, shares0, shares1}
-use Rattle.step_definition.specs.Rounds.{request, request9, shareRequest, shares9, jobOf, job9, readyOf, begunOf, ready, begun, gathered}
-use Rattle.step_definition.specs.Rounds.{nothingTold, refuses, refusesWith, fails, noncesAsked, retriedWith, recordedOf, sharesAsked, takenOf, jobGiven, noncesLate, insufficient}
-use Rattle.step_definition.specs.Rounds.{_⇒_, left, left9, Round, round}
+use Rattle.step_definition.specs.rounds.Rounds.{signer, configuration, three, at, sends, processes, starts, idsOf, ids, nine, five, root, good}
+use Rattle.step_definition.specs.rounds.Rounds.{responseOf, respond, q0, q1, q2, under, to, answers, share, sharesOf, shares, shares0, shares1}
+use Rattle.step_definition.specs.rounds.Rounds.{request, request9, shareRequest, shares9, jobOf, job9, readyOf, begunOf, ready, begun, gathered}
+use Rattle.step_definition.specs.rounds.Rounds.{nothingTold, refuses, refusesWith, fails, noncesAsked, retriedWith, recordedOf, sharesAsked, takenOf, jobGiven, noncesLate, insufficient}
+use Rattle.step_definition.specs.rounds.Rounds.{_⇒_, left, left9, Round, round}
 
 abbrev all : List ℕ
 all = 0 ∷ 1 ∷ 2 ∷ []
@@ -322,6 +322,13 @@ anotherSignId =
     (sends 0 (nonceRequest (request (idsOf 7 5 4) five TaprootRoot root)) ⇒ noncesAsked (request (idsOf 1 5 4) five TaprootRoot root) ∷ [])
     (left (idsOf 1 5 4) five [])
 
+-- another is any other, also a smaller one
+abbrev pub smallerSignId : Round
+smallerSignId =
+    round (ready ++ (starts 0 nine Frost [] (some 7) ∷ at 0 reset ∷ []))
+    (sends 0 (nonceRequest (request (idsOf 1 3 9) five Frost [])) ⇒ noncesAsked (request (idsOf 1 3 9) five Frost []) ∷ [])
+    (left (idsOf 1 3 9) five [])
+
 -- "`request_nonces` adds 1, wrapping": a retry after iteration 2^64 − 1
 abbrev pub iterationWraps : Round
 iterationWraps =
@@ -390,6 +397,20 @@ waiterRemoved =
     (shares 0 1 (2 ∷ []) ⇒ fails 22 (1 ∷ []) ∷ shares1 ⇒ nothingTold ∷ at 11 processTimeout ⇒ retriedWith (0 ∷ []) (request9 2) ∷ [])
     (left (ids 2) nine (0 ∷ []))
 
+-- and they are not kept: 0's shares complete the job, which is without 1's and not whole
+abbrev pub refusedNotKept : Round
+refusedNotKept =
+    round gathered
+    (shares 0 1 (2 ∷ []) ⇒ fails 22 (1 ∷ []) ∷ shares1 ⇒ nothingTold ∷ shares0 ⇒ jobGiven 0 false (job9 (share 0 (1 ∷ []) ∷ [])) ∷ [])
+    (left9 1)
+
+-- "num_keys − struck keys": num_keys, and not the sizes of the sets together, which are 4. Only 1 silent: 5 − 2 = 3, retry
+abbrev pub spareKey : Round
+spareKey =
+    round (begunOf (configuration 5 3 3 (some 10) (some 10) three true) all ++ (answers 0 q0 ∷ answers 0 q1 ∷ shares0 ∷ []))
+    (at 11 processTimeout ⇒ retriedWith (1 ∷ []) (request9 2) ∷ [])
+    (left (ids 2) nine (1 ∷ []))
+
 -- the last waiter too can be removed with no job; a timeout then marks nobody
 abbrev pub nobodyWaits : Round
 nobodyWaits =
@@ -455,8 +476,9 @@ resetDropsJob =
     ∷ [])
     (left9 2)
 
-unfoldable pub corners : List Round
-corners =
+-- coordinator/mod.rs and timeouts
+abbrev timeoutRounds : List Round
+timeoutRounds =
     signThreshold
     ∷ threshold
     ∷ noTimeouts
@@ -473,7 +495,12 @@ corners =
     ∷ threeExclusions
     ∷ insufficientAgain
     ∷ sharedKey
-    ∷ refusedStart
+    ∷ []
+
+-- starts
+abbrev startRounds : List Round
+startRounds =
+    refusedStart
     ∷ refusedStartNext
     ∷ refusedStartWraps
     ∷ unrecordedMessage
@@ -485,8 +512,14 @@ corners =
     ∷ startAgain
     ∷ rootCompared
     ∷ iterationGoesOn
-    ∷ currentSignId
+    ∷ []
+
+-- messages, the aggregator's answer and reset
+abbrev messageRounds : List Round
+messageRounds =
+    currentSignId
     ∷ anotherSignId
+    ∷ smallerSignId
     ∷ iterationWraps
     ∷ noncesNotCounted
     ∷ answeredReplaces
@@ -494,6 +527,8 @@ corners =
     ∷ waitingFirst
     ∷ shareIds
     ∷ waiterRemoved
+    ∷ refusedNotKept
+    ∷ spareKey
     ∷ nobodyWaits
     ∷ nonceIds
     ∷ aggregatorError
@@ -502,3 +537,6 @@ corners =
     ∷ resetKeepsMarked
     ∷ resetDropsJob
     ∷ []
+
+unfoldable pub corners : List Round
+corners = timeoutRounds ++ startRounds ++ messageRounds

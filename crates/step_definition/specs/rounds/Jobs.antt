@@ -10,10 +10,11 @@ use Rattle.layout.specs.Messages.{SignatureShare, nonceRequest}
 use Rattle.state_table.specs.declared.State.the-variants.{DkgPublicDistribute}
 use Rattle.state_table.specs.States.{position}
 use Rattle.step_definition.specs.Calls.{canMove, processTimeout, aggregated}
-use Rattle.step_definition.specs.Calls.{result, sending, handing, marked, sharesTaken, jobWritten}
-use Rattle.step_definition.specs.Rounds.{signer, configuration, three, at, sends, starts, idsOf, ids, nine, root, nonce, good, responseOf, q0, q1, q2, under, answers, share, sharesOf}
-use Rattle.step_definition.specs.Rounds.{shares, shares0, shares1, request, shareRequest, shares9, jobOf, job9, ready, begunOf, gathered}
-use Rattle.step_definition.specs.Rounds.{tells, fails, saying, noncesAsked, retriedWith, recordedOf, sharesAsked, takenOf, jobGiven, _⇒_, left, left9, Round, round}
+use Rattle.step_definition.specs.Calls.{result, marked, sharesTaken, jobWritten}
+use Rattle.step_definition.specs.rounds.Rounds.{signer, configuration, three, at, sends, starts, idsOf, ids, nine, root, nonce, good, responseOf, q0, q1, q2, under, answers, share, sharesOf}
+use Rattle.step_definition.specs.rounds.Rounds.{shares, shares0, shares1, request, shareRequest, shares9, jobOf, job9, ready, begunOf, gathered}
+use Rattle.step_definition.specs.rounds.Rounds.{tells, fails, saying, noncesAsked, retriedWith, recordedOf, sharesAsked, takenOf, jobGiven, _⇒_, left, left9, Round, round}
+use Rattle.step_definition.specs.rounds.Rounds.{written, handed}
 
 -- "Success moves to Idle with the result kind": Sign 0, SignSchnorr 1, SignTaproot 2. Type and root go with every packet; 1 answers and
 -- shares before 0. The first key-generation state may be entered from Idle only
@@ -144,7 +145,7 @@ jobBytes =
     ∷ sends 0 (sharesOf i 1 (s1 ∷ []))
     ∷ []))
     (sends 0 (sharesOf i 0 (s0 ∷ []))
-    ⇒ tells (handing true bytes)
+    ⇒ tells (handed true bytes)
     (sharesTaken 0 ∷ jobWritten (jobOf i nine TaprootRoot root (1 ∷ 2 ∷ 3 ∷ []) (n0 ∷ n1 ∷ []) (s0 ∷ s1 ∷ [])) ∷ [])
     ∷ [])
     (left i nine [])
@@ -155,7 +156,7 @@ nonceTimeoutBytes =
     round (gathered ++ (shares1 ∷ at 11 processTimeout ∷ answers 11 (under (ids 2) q2) ∷ []))
     (at 22 processTimeout
     ⇒ tells
-    (sending result ((33 ∷ 0 ∷ 2 ∷ 0 ∷ []) ++ four 0 ++ replicate 24 0 ++ four 48 ++ four 4 ++ four 52 ++ four 4 ++ four 2 ++ four 0))
+    (written result ((33 ∷ 0 ∷ 2 ∷ 0 ∷ []) ++ four 0 ++ replicate 24 0 ++ four 48 ++ four 4 ++ four 52 ++ four 4 ++ four 2 ++ four 0))
     []
     ∷ [])
     (left (ids 2) nine (0 ∷ []))
@@ -166,7 +167,7 @@ insufficientBytes =
     round gathered
     (at 11 processTimeout
     ⇒ tells
-    (sending result ((34 ∷ 0 ∷ 1 ∷ 0 ∷ []) ++ four 0 ++ replicate 24 0 ++ four 40 ++ four 8 ++ four 0 ++ four 1))
+    (written result ((34 ∷ 0 ∷ 1 ∷ 0 ∷ []) ++ four 0 ++ replicate 24 0 ++ four 40 ++ four 8 ++ four 0 ++ four 1))
     (marked (0 ∷ 1 ∷ []) ∷ [])
     ∷ [])
     (left (ids 1) nine (0 ∷ 1 ∷ []))

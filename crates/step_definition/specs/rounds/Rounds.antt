@@ -17,7 +17,7 @@ use Rattle.step_definition.specs.Configuration.{Config, SignerConfig}
 use Rattle.step_definition.specs.Coordinator.{Held, uncommissioned, miscounted, commissioned}
 use Rattle.step_definition.specs.Calls.{process, processMessage, coordinatorKey, aggregateKey, Request, commission, other, Call}
 use Rattle.step_definition.specs.Calls.{Operation, setKey, takeResults, startSigning, receive, processTimeout}
-use Rattle.step_definition.specs.Calls.{packet, result, error, Answer, plain, refusing, sending, handing, telling}
+use Rattle.step_definition.specs.Calls.{Class, nothing, packet, job, result, error, Answer}
 use Rattle.step_definition.specs.Calls.{Event, recorded, sharesTaken, marked, requested, retried, shareRequested, jobWritten}
 use Rattle.step_definition.specs.Step.{step}
 use Rattle.step_definition.specs.Run.{final}
@@ -27,16 +27,16 @@ abbrev pub signer : ℕ → List ℕ → SignerConfig
 signer id keys = record { id = id; key-ids = some keys }
 
 -- with num_keys, the threshold that limits exclusion and the one that ends gathering, the nonce and the share timeout, the signers, and
--- whether packets are verified
+-- whether packets are verified. What signing doesn't look at, the key generation's threshold and timeouts, has a value of its own
 abbrev pub configuration : ℕ → ℕ → ℕ → Option ℕ → Option ℕ → List SignerConfig → Bool → Config
 configuration num-keys threshold sign-threshold nonce sign signers verify =
     record {
       num-signers = 3;
       num-keys = num-keys;
       threshold = threshold;
-      dkg-threshold = num-keys;
+      dkg-threshold = 9;
       sign-threshold = sign-threshold;
-      timeouts = record { dkg-public = none; dkg-private = none; dkg-end = none; nonce = nonce; sign = sign };
+      timeouts = record { dkg-public = some 6; dkg-private = some 7; dkg-end = some 8; nonce = nonce; sign = sign };
       signers = signers;
       verify-packet-sigs = verify;
     }
@@ -182,6 +182,25 @@ begun = begunOf example (0 ∷ 1 ∷ 2 ∷ [])
 abbrev pub gathered : List Call
 gathered = begun ++ (answers 0 q0 ∷ answers 0 q1 ∷ [])
 
+-- Answers, written out: nothing; a number with its values; bytes; a job's bytes with its mark; a value.
+abbrev pub answerOf : Class → ℕ → List ℕ → Bool → List ℕ → Answer
+answerOf class number values mark bytes = record { class = class; number = number; values = values; mark = mark; bytes = bytes }
+
+abbrev pub nothingSaid : Answer
+nothingSaid = answerOf nothing 0 [] false []
+
+abbrev pub numbered : Class → ℕ → List ℕ → Answer
+numbered class n values = answerOf class n values false []
+
+abbrev pub written : Class → List ℕ → Answer
+written class bytes = answerOf class 0 [] false bytes
+
+abbrev pub handed : Bool → List ℕ → Answer
+handed whole bytes = answerOf job 0 [] whole bytes
+
+abbrev pub valued : List ℕ → Answer
+valued values = answerOf result 0 values false []
+
 -- What a call tells: its answer, and what happened.
 pub record Told : Type 0 where
   pub answer : Answer
@@ -191,49 +210,49 @@ abbrev pub tells : Answer → List Event → Told
 tells a es = record { answer = a; events = es }
 
 abbrev pub nothingTold : Told
-nothingTold = tells plain []
+nothingTold = tells nothingSaid []
 
 -- an error with a number; with values; a result with a number and values
 abbrev pub refuses : ℕ → Told
-refuses n = tells (refusing error n []) []
+refuses n = tells (numbered error n []) []
 
 abbrev pub refusesWith : ℕ → List ℕ → Told
-refusesWith n values = tells (refusing error n values) []
+refusesWith n values = tells (numbered error n values) []
 
 abbrev pub fails : ℕ → List ℕ → Told
-fails n values = tells (refusing result n values) []
+fails n values = tells (numbered result n values) []
 
 -- a value: a result kind, yes (1) or no (0)
 abbrev pub saying : ℕ → Told
-saying n = tells (telling (n ∷ [])) []
+saying n = tells (valued (n ∷ [])) []
 
 -- a nonce request leaves; after a share timeout that newly marked these
 abbrev pub noncesAsked : NonceRequest → Told
-noncesAsked r = tells (sending packet (encode (nonceRequest r))) (requested r ∷ [])
+noncesAsked r = tells (written packet (encode (nonceRequest r))) (requested r ∷ [])
 
 abbrev pub retriedWith : List ℕ → NonceRequest → Told
-retriedWith new r = tells (sending packet (encode (nonceRequest r))) (marked new ∷ requested r ∷ retried ∷ [])
+retriedWith new r = tells (written packet (encode (nonceRequest r))) (marked new ∷ requested r ∷ retried ∷ [])
 
 -- a signer's response is recorded; with it the share request leaves
 abbrev pub recordedOf : ℕ → Told
-recordedOf id = tells plain (recorded id ∷ [])
+recordedOf id = tells nothingSaid (recorded id ∷ [])
 
 abbrev pub sharesAsked : ℕ → SignatureShareRequest → Told
-sharesAsked id r = tells (sending packet (encode (signatureShareRequest r))) (recorded id ∷ shareRequested r ∷ [])
+sharesAsked id r = tells (written packet (encode (signatureShareRequest r))) (recorded id ∷ shareRequested r ∷ [])
 
 -- a signer's shares are taken; with them the job goes out, with its mark
 abbrev pub takenOf : ℕ → Told
-takenOf id = tells plain (sharesTaken id ∷ [])
+takenOf id = tells nothingSaid (sharesTaken id ∷ [])
 
 abbrev pub jobGiven : ℕ → Bool → Job → Told
-jobGiven id whole j = tells (handing whole (encodeJob j)) (sharesTaken id ∷ jobWritten j ∷ [])
+jobGiven id whole j = tells (handed whole (encodeJob j)) (sharesTaken id ∷ jobWritten j ∷ [])
 
 -- NonceTimeout with waiters and struck; InsufficientSigners with the struck, of whom these are new
 abbrev pub noncesLate : List ℕ → List ℕ → Told
-noncesLate waiters malicious = tells (sending result (encodeNonceTimeout waiters malicious)) []
+noncesLate waiters malicious = tells (written result (encodeNonceTimeout waiters malicious)) []
 
 abbrev pub insufficient : List ℕ → List ℕ → Told
-insufficient new malicious = tells (sending result (encodeInsufficientSigners malicious)) (marked new ∷ [])
+insufficient new malicious = tells (written result (encodeInsufficientSigners malicious)) (marked new ∷ [])
 
 -- A call with what it tells: `call ⇒ told`.
 pub record Line : Type 0 where

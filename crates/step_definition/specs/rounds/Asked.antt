@@ -13,12 +13,13 @@ use Rattle.validity.specs.Nonces.{identity, generator}
 use Rattle.step_definition.specs.Configuration.{Config, SignerConfig}
 use Rattle.step_definition.specs.Calls.{process, processMessage, coordinatorKey, aggregateKey, commission, Call, other}
 use Rattle.step_definition.specs.Calls.{setKey, takeResults, receive, processTimeout, aggregated, reset}
-use Rattle.step_definition.specs.Calls.{error, refusing, recorded}
-use Rattle.step_definition.specs.Rounds.{signer, configuration, three, lending, calling, at, sends, processes, starts, idsOf, ids, nine, five}
-use Rattle.step_definition.specs.Rounds.{point, nonce, good, responseOf, respond, q0, q1, q2, under, to, answers, share, sharesOf, shares}
-use Rattle.step_definition.specs.Rounds.{shares0, shares1, request, request9, shareRequest, shares9, job9, readyOf, begunOf, ready, begun}
-use Rattle.step_definition.specs.Rounds.{gathered, tells, nothingTold, refuses, refusesWith, fails, noncesAsked, retriedWith, recordedOf}
-use Rattle.step_definition.specs.Rounds.{sharesAsked, takenOf, jobGiven, noncesLate, _⇒_, left, left9, Round, round}
+use Rattle.step_definition.specs.Calls.{error, recorded}
+use Rattle.step_definition.specs.rounds.Rounds.{signer, configuration, three, lending, calling, at, sends, processes, starts, idsOf, ids, nine, five}
+use Rattle.step_definition.specs.rounds.Rounds.{point, nonce, good, responseOf, respond, q0, q1, q2, under, to, answers, share, sharesOf, shares}
+use Rattle.step_definition.specs.rounds.Rounds.{shares0, shares1, request, request9, shareRequest, shares9, job9, readyOf, begunOf, ready, begun}
+use Rattle.step_definition.specs.rounds.Rounds.{gathered, tells, nothingTold, refuses, refusesWith, fails, noncesAsked, retriedWith, recordedOf}
+use Rattle.step_definition.specs.rounds.Rounds.{sharesAsked, takenOf, jobGiven, noncesLate, _⇒_, left, left9, Round, round}
+use Rattle.step_definition.specs.rounds.Rounds.{numbered}
 
 abbrev all : List ℕ
 all = 0 ∷ 1 ∷ 2 ∷ []
@@ -243,8 +244,13 @@ unheardSharing =
 abbrev pub dkgBegins : Round
 dkgBegins =
     round ready
-    (sends 0 (dkgBegin 1) ⇒ nothingTold ∷ sends 0 (dkgBegin 2) ⇒ refuses 15 ∷ processes 0 (dkgBegin 0) ⇒ refuses 15 ∷ [])
-    (left (idsOf 1 0 0) [] [])
+    (sends 0 (dkgBegin 1) ⇒ nothingTold
+    ∷ sends 0 (dkgBegin 2) ⇒ refuses 15
+    ∷ processes 0 (dkgBegin 0) ⇒ refuses 15
+    ∷ starts 0 nine Frost [] none ⇒ noncesAsked (request9 1)
+    ∷ answers 0 q0 ⇒ recordedOf 0
+    ∷ [])
+    (left9 1)
 
 -- NonceGather, on a response.
 -- "Then silently nothing unless, in this order: configured, key generation ended, key set entry, set equal, nonces valid": 7 is not
@@ -344,7 +350,7 @@ abbrev pub thresholdUnheld : Round
 thresholdUnheld =
     round (begun ++ (answers 0 (to five q0) ∷ groupCleared ∷ []))
     (answers 0 q2 ⇒ recordedOf 2
-    ∷ answers 0 (to five q1) ⇒ tells (refusing error 10 []) (recorded 1 ∷ [])
+    ∷ answers 0 (to five q1) ⇒ tells (numbered error 10 []) (recorded 1 ∷ [])
     ∷ at 11 processTimeout ⇒ noncesLate (0 ∷ 1 ∷ []) []
     ∷ groupHeld ⇒ nothingTold
     ∷ answers 0 (to five q1) ⇒ nothingTold
@@ -355,7 +361,7 @@ thresholdUnheld =
 abbrev pub thresholdUnheldLeft : Round
 thresholdUnheldLeft =
     round (begun ++ (answers 0 (to five q0) ∷ groupCleared ∷ []))
-    (answers 0 (to five q1) ⇒ tells (refusing error 10 []) (recorded 1 ∷ []) ∷ [])
+    (answers 0 (to five q1) ⇒ tells (numbered error 10 []) (recorded 1 ∷ []) ∷ [])
     (left (ids 1) five [])
 
 -- the retry doesn't ask for the group key
