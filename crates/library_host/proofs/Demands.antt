@@ -12,11 +12,12 @@ use Rattle.layout.specs.Encode.{encode}
 use Rattle.step_definition.specs.Lists.{given}
 use Rattle.step_definition.specs.Calls as A
 use Rattle.step_definition.specs.Run.{Seen}
-use Rattle.step_definition.specs.ResponseLog.{Place, firstNamed, empty}
+use Rattle.step_definition.specs.ResponseLog.{Place, firstNamed, empty, logAfter}
 use Rattle.step_definition.specs.Demand3.{SameFour, openedBy, Authentic}
-use Rattle.host.specs.Host.{HostCall, Host, turnOf, hostStep, seen, asCall, hostRun, Makeable}
+use Rattle.step_definition.proofs.NextShareRequest.{RecordsLogged}
+use Rattle.host.specs.Host.{HostCall, Host, turnOf, hostStep, hostFinal, viewed, seen, asCall, hostRun, Makeable}
 use Rattle.host.specs.Demand3.{Fits, HostPlain, Written, firstKind3, named}
-use Rattle.host.proofs.Demands.{host-equal-futures, host-next-share-request}
+use Rattle.host.proofs.Demands.{host-equal-futures, host-next-share-request, host-log-is-records}
 use Rattle.library_host.specs.Library.{Buffers, counted, LibraryCall, Made, Ran, outright, hostCall, lendingNothing, asHost, numbered, numberedIn}
 use Rattle.library_host.specs.Library.{firstShareRequestIn}
 use Rattle.library_host.proofs.Formed.{loaded-formed, loaded-fits}
@@ -105,3 +106,24 @@ library-next-share-request k b c a m one ks plain told e r =
     subst (λ (y : Host). Next (asHost k) hs (turnOf (asHost k) (counted b) .answer) (firstKind3 hs y) y) (sym s) next in
     let first = ap firstShareRequestIn (library-run ks c told e r .0) ∙ first-seen ks (counted c) in
     (held .0, t ∙ held .1, first ∙ held .2, held .3)
+
+-- "which is then recorded": up to the first share request the book's entries are the records that the bytes stand for
+pub library-log-is-records :
+    (k : LibraryCall) (b c : Buffers) (a : A.Answer) → Made k b a c → getD (a .bytes) 0 0 ≡ 1
+    → (ks : List LibraryCall) → HostPlain (map asHost ks) (counted c) → (told : List Seen) (e : Buffers) → Ran ks c told e → firstShareRequestIn told ≡ none
+    → (q : NonceRequest) × (a ≡ A.sending A.packet (encode (nonceRequest q)))
+    × RecordsLogged (viewed (counted e))
+    (logAfter (openedBy (asCall (asHost k)) q (seen (counted c))) (empty (openedBy (asCall (asHost k)) q (seen (counted c)))) (map asCall (map asHost ks)))
+library-log-is-records k b c a m one ks plain told e r none-left =
+    let s = library-step k b m in
+    let t = wrote-answer k b m one in
+    let hs = map asHost ks in
+    let first : firstKind3 hs (hostStep (asHost k) (counted b)) ≡ none =
+    ap (firstKind3 hs) (sym s) ∙ sym (ap firstShareRequestIn (library-run ks c told e r .0) ∙ first-seen ks (counted c)) ∙ none-left in
+    let logged =
+    host-log-is-records (asHost k) (counted b) (loaded-formed (b .state)) (library-makeable k b m)
+    (sym (ap (λ (bs : List ℕ). getD bs 0 0) (library-bytes k b m)) ∙ one) hs (follows k b m ks told e r) (subst (HostPlain hs) s plain) first in
+    let P : Host → Host → Type 0 =
+    λ y z. RecordsLogged (viewed z) (logAfter (openedBy (asCall (asHost k)) (logged .0) (seen y)) (empty (openedBy (asCall (asHost k)) (logged .0) (seen y))) (map asCall hs)) in
+    let end : counted e ≡ hostFinal hs (hostStep (asHost k) (counted b)) = library-run ks c told e r .1 ∙ ap (hostFinal hs) s in
+    (logged .0, t ∙ logged .1, subst (λ (y : Host). P y (counted e)) (sym s) (subst (P (hostStep (asHost k) (counted b))) (sym end) (logged .2)))

@@ -7,3 +7,4 @@ pub mod Calls
 pub mod Demands
 pub mod Changes
 pub mod Contracts
+pub mod Makes
