@@ -24,7 +24,7 @@ use Rattle.state.proofs.Collect.{collect-none}
 use Rattle.state.proofs.Refines.{on-held, view-held, callOf}
 use Rattle.state.proofs.Moves.{move-viewed}
 use Rattle.calls.specs.Resets.{resetTurn, abandoned, forgotten, asksNothing}
-use Rattle.round.proofs.Viewed.{no-shares, no-shares-within}
+use Rattle.state.proofs.Viewed.{no-shares, no-shares-within}
 use Rattle.calls.specs.declared.held_keys.HeldKey.{HeldKey}
 use Rattle.calls.specs.declared.held_keys.HeldKey.the-variants as Which
 use Rattle.calls.specs.Calls.{askingNoJob, askingAJob, keysWith, setKeyTurn, moveTurn, aggregatedTurn}

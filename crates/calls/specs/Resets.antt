@@ -11,7 +11,7 @@ use Rattle.state.specs.declared.answers.Asks.{Asks}
 use Rattle.state.specs.declared.fields.Coordinator.{Coordinator}
 use Rattle.state.specs.Setters.{setJob, setClocks, setShares, setRecords, setPosition, setMarks}
 use Rattle.state.specs.Turns.{Turn, turn, asked, unless}
-use Rattle.round.specs.Round.{noneHeld}
+use Rattle.state.specs.Replaced.{noneHeld}
 
 -- reset, in two steps
 unfoldable pub abandoned : Coordinator → Coordinator

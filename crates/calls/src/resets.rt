@@ -28,7 +28,7 @@ fn abandon(s: Coordinator) -> Coordinator
     let held = s.records;
     let rows = held.rows;
     let records = Records { rows, count: 0 };
-    let shares = round::no_shares();
+    let shares = state::replaced::no_shares();
     let clocks = Clocks {
         nonce_start: Reading::Never,
         sign_start: Reading::Never,

@@ -21,13 +21,13 @@ use Rattle.state.proofs.Arrays.{getD-same}
 use Rattle.state.proofs.Collect.{collect-none}
 use Rattle.state.proofs.Within.{is-within}
 use Rattle.state.proofs.Refines.{view-held, callOf}
-use Rattle.round.proofs.Viewed.{no-shares, no-shares-within}
+use Rattle.state.proofs.Viewed.{no-shares, no-shares-within}
 use Rattle.configuration.specs.declared.new_config.NewConfig.{NewConfig}
 use Rattle.configuration.specs.NewConfig.{newConfigOf, newAsked}
 use Rattle.configuration.specs.Made.{configFrom}
 use Rattle.configuration.proofs.Asked.{asked-all, accepted}
 use Rattle.configuration.proofs.Viewed.{kept-within, kept-viewed}
-use Rattle.commission.specs.Commission.{noRecords, nobodyMarked, noMessage, atIdle, freshWith, uncommissionedStruct, freshOf, commissionTurn}
+use Rattle.commission.specs.Commission.{noRecords, noMarks, noMessage, atIdle, freshWith, uncommissionedStruct, freshOf, commissionTurn}
 
 -- a fresh struct passes question 4 where its configuration does
 fresh-within : (g : Config) → configWithin g ≡ true → isWithin (freshWith true g) ≡ true
@@ -36,7 +36,7 @@ fresh-within g w = is-within (freshWith true g) (record { config = w; message = 
 
 -- it stands for a fresh coordinator, at any store
 fresh-viewed : (g : Config) (store : List ℕ) → coordinatorOf (freshWith true g) store ≡ C.fresh (configOf g)
-unfolding coordinatorOf standingOf roundOf rowsFrom positionOf rootBytes reading noRecords nobodyMarked noMessage atIdle
+unfolding coordinatorOf standingOf roundOf rowsFrom positionOf rootBytes reading noRecords noMarks noMessage atIdle
 fresh-viewed g store = rw (nobody, no-shares (slotsOf g) store)
   where
     nobody : collect (flaggedIn (replicate signerLimit false)) (slotsOf g) ≡ []

@@ -18,7 +18,7 @@ use Rattle.state.specs.declared.fields.Message.{Message}
 use Rattle.state.specs.declared.fields.Coordinator.{Coordinator}
 use Rattle.state.specs.View.{noSlot}
 use Rattle.state.specs.Turns.{Turn, turn, unless}
-use Rattle.round.specs.Round.{noneHeld}
+use Rattle.state.specs.Replaced.{noneHeld}
 use Rattle.configuration.specs.declared.new_config.NewConfig.{NewConfig}
 use Rattle.configuration.specs.NewConfig.{newConfigOf, newAsked}
 use Rattle.configuration.specs.Made.{configFrom, blankConfig}
@@ -30,8 +30,8 @@ noResponses = record { message = 0; slots = replicate signerLimit noSlot }
 unfoldable pub noRecords : Records
 noRecords = record { rows = replicate recordLimit noResponses; count = 0 }
 
-unfoldable pub nobodyMarked : Marks
-nobodyMarked = record { ended = replicate signerLimit false; malicious = replicate signerLimit false }
+unfoldable pub noMarks : Marks
+noMarks = record { ended = replicate signerLimit false; malicious = replicate signerLimit false }
 
 unfoldable pub noMessage : Message
 noMessage = record { bytes = replicate messageLimit 0; len = 0 }
@@ -49,7 +49,7 @@ freshWith held g =
       message = noMessage;
       records = noRecords;
       shares = noneHeld;
-      marks = nobodyMarked;
+      marks = noMarks;
       clocks = record { «nonce_start» = Never; «sign_start» = Never };
       keys = record { coordinator = false; aggregate = false };
       job = false;

@@ -1,6 +1,6 @@
-// The struct as the Rust's `new` gives it: Idle, ids 0, nothing held, nobody marked.
+// The struct as the Rust's `new` gives it: Idle, ids 0, nothing held, nobody malicious.
 ghost use mathlib.Core.Path.{_≡_};
-ghost use Rattle.commission.specs.Commission.{noRecords, nobodyMarked, atIdle, noMessage, freshWith};
+ghost use Rattle.commission.specs.Commission.{noRecords, noMarks, atIdle, noMessage, freshWith};
 use layout::Ids;
 use layout::MESSAGE_LIMIT;
 use layout::RECORD_LIMIT;
@@ -41,7 +41,7 @@ fn no_records() -> Records
 }
 
 fn nobody() -> Marks
-    ensures { λ r. ⌜ r ≡ nobodyMarked ⌝ }
+    ensures { λ r. ⌜ r ≡ noMarks ⌝ }
 {
     let ended = [false; SIGNER_LIMIT];
     let malicious = [false; SIGNER_LIMIT];
@@ -69,7 +69,7 @@ pub fn fresh(commissioned: bool, config: Config) -> Coordinator
     ensures { λ r. ⌜ r ≡ freshWith commissioned config ⌝ }
 {
     let records = no_records();
-    let shares = round::no_shares();
+    let shares = state::replaced::no_shares();
     let marks = nobody();
     let message = no_message();
     let position = idle();

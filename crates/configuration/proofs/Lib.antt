@@ -3,6 +3,7 @@
 pub mod Walks
 pub mod Given
 pub mod Sets
-pub mod Entries
+pub mod Placing
+pub mod KeySet
 pub mod Asked
 pub mod Viewed

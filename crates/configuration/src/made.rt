@@ -4,15 +4,14 @@ ghost use mathlib.Core.Bool.{true};
 ghost use Prim.Native.Nat.{_≤_};
 ghost use Rattle.layout.specs.Limits.{listLimit};
 ghost use Rattle.validity.specs.Keys.{listed};
-ghost use Rattle.key_sets.specs.Sets.{inSet, Kept};
+ghost use Rattle.configuration.specs.KeySet.{inSet, Kept};
 ghost use Rattle.configuration.specs.NewConfig.{keysGiven, isSetWithin, Accepted};
 ghost use Rattle.configuration.specs.Made.{placed, entryOf, configFrom, blankConfig};
+use crate::key_set;
+use crate::key_set::KeySet;
 use crate::new_config::NewConfig;
 use crate::new_config::NewSigner;
 use crate::questions;
-use key_sets::keys;
-use key_sets::keys::KEY_LIMIT;
-use key_sets::keys::KeySet;
 use layout::KeyId;
 use layout::LIST_LIMIT;
 use layout::SIGNER_LIMIT;
@@ -65,16 +64,7 @@ fn entry_of(s: NewSigner) -> SignerEntry
     let id = s.id;
     let has_keys = s.has_keys;
     let list = keys_of(s);
-    let entry = SignerEntry {
-        id,
-        has_keys,
-        keys: list,
-    };
-    let empty = KeySet {
-        ids: [0; KEY_LIMIT],
-        count: 0,
-    };
-    let set = keys::add_entry(empty, entry);
+    let set = key_set::ascending(list);
     let ascending = places_of(set);
     SignerEntry {
         id,

@@ -1,5 +1,5 @@
 // The calls together, as a host makes them: each takes the struct by value and is lent the store, and gives the answer and the struct
-// after. None asks anything of its arguments. `call-refines` and `run-refines` (crate host) say that they are the step's.
+// after. None asks anything of its arguments. `call-refines` and `run-refines` (crate coordinator_theorems) say that they are the step's.
 ghost use mathlib.Core.List.{[]};
 ghost use lib.ListN.{length};
 ghost use Rattle.state.specs.Turns.{Did};
@@ -8,7 +8,7 @@ ghost use Rattle.calls.specs.Calls.{setKeyTurn, moveTurn, aggregatedTurn};
 ghost use Rattle.calls.specs.Resets.{resetTurn};
 ghost use Rattle.results.specs.Results.{resultsTurn};
 ghost use Rattle.starts.specs.Starts.{startTurn};
-ghost use Rattle.entries.specs.declared.Entry.the-variants.{Process, ProcessMessage};
+ghost use Rattle.packet_entry.specs.declared.Entry.the-variants.{Process, ProcessMessage};
 ghost use Rattle.process.specs.Process.{receiveTurn};
 ghost use Rattle.process_timeout.specs.ProcessTimeout.{processTimeoutTurn};
 use calls::aggregator;

@@ -24,8 +24,7 @@ use Rattle.state.specs.Counts.{entries, entryWithin}
 use Rattle.state.specs.View.{idsOf, slotsOf, noEntry, noSlot, signerIn, configOf, placeOf, heldIn, flaggedIn}
 use Rattle.state.proofs.SignerSlots.{In, here, later, slots-rise, slots-low}
 use Rattle.state.proofs.Collect.{find-in}
-use Rattle.key_sets.specs.Sets.{setOf}
-use Rattle.key_counts.specs.Sets.{heldKeys, flaggedSizes}
+use Rattle.key_counts.specs.Sets.{setOf, heldKeys, flaggedSizes}
 
 -- what holds of each that is in a list holds of all
 in-each : (P : SignerSlot → Type 0) (es : List SignerSlot) → ((e : SignerSlot) → In e es → P e) → All P es

@@ -1,12 +1,12 @@
 -- Key sets of signers, joined and counted along the signers in order.
-use Prim.Native.Nat.{ℕ, _+_, _≤_}
+use Prim.Native.Nat.{ℕ, _+_, _*_, _≤_}
 use mathlib.Core.Path.{_≡_}
 use mathlib.Core.Bool.{Bool, true, false, cond}
 use mathlib.Core.List.{List, [], _∷_}
 use lib.ListN.{length, take, getD}
 use Rattle.wire.specs.Bytes.{every}
-use Rattle.layout.specs.Limits.{signerLimit}
-use Rattle.validity.specs.Keys.{member}
+use Rattle.layout.specs.Limits.{listLimit, signerLimit}
+use Rattle.validity.specs.Keys.{listed, member}
 use Rattle.step_definition.specs.Ids.{insertAll}
 use Rattle.step_definition.specs.Demand3.{Ascending}
 use Rattle.state.specs.declared.fields.SignerEntry.{SignerEntry}
@@ -17,8 +17,15 @@ use Rattle.state.specs.Counts.{entries, entryWithin}
 use Rattle.state.specs.View.{slotsOf, noEntry, noSlot}
 use Rattle.signers.specs.declared.order.Order.{Order}
 use Rattle.signers.specs.Order.{ordered}
-use Rattle.key_sets.specs.Sets.{setOf}
 use Rattle.key_counts.specs.declared.keys.DifferentKeys.{DifferentKeys}
+
+-- every key of every signer
+abbrev pub keyLimit : ℕ
+keyLimit = signerLimit * listLimit
+
+-- a signer's keys: none where it has no set
+unfoldable pub setOf : SignerEntry → List ℕ
+setOf e = cond (e .«has_keys») (listed (e .keys)) []
 
 -- the keys that are held are those of a list that ascends, and as many
 pub record Counted (s : DifferentKeys) (zs : List ℕ) : Type 0 where

@@ -36,7 +36,7 @@ module _ {s : Coordinator} {store p : List ℕ} {h : Header} {room : ℕ} (i : I
       }
 
   -- a kind 2 packet has whole and short lists
-  pub gathering : h .kind ≡ 2 → N.Gathering s store (partAt p 32) (partAt p 40) (partAt p 48) room
+  pub gathering : h .kind ≡ 2 → N.NoncesGathering s store (partAt p 32) (partAt p 40) (partAt p 48) room
   unfolding laidOut wholeLists wholeResponse wholeEntries messageIn within responseWithin responseIn
   gathering e =
       let k = kind-is 2 e in
@@ -62,7 +62,7 @@ module _ {s : Coordinator} {store p : List ℕ} {h : Header} {room : ℕ} (i : I
       }
 
   -- a kind 4 packet has shares that can be recorded
-  pub shareable : h .kind ≡ 4 → S.Gathering s store p h room
+  pub shareable : h .kind ≡ 4 → S.SharesGathering s store p h room
   shareable e =
       record {
         within = i .within;

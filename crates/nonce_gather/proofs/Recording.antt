@@ -28,14 +28,14 @@ use Rattle.state.proofs.Within.{within, config-few, records-few, rows-within}
 use Rattle.state.proofs.Shape.{Shaped}
 use Rattle.records.specs.declared.verdicts.Verdict.the-variants.{Record}
 use Rattle.records.specs.Records.{responseFor, recordPlace, emptyRow, opened, openedStore, heldSlot, addedRecords, addedStore, Placed}
-use Rattle.records.specs.Verdicts.{verdictOf, Ready}
+use Rattle.records.specs.Verdicts.{verdictOf, VerdictReady}
 use Rattle.records.proofs.AddResponse.{Sent}
 use Rattle.records.proofs.Asking.{slot-low}
 use Rattle.records.proofs.Recordable.{Recordable, recordable}
 use Rattle.records.proofs.Decided.{no-record}
 use Rattle.records.proofs.Effect.{after-within, recorded-seen}
 use Rattle.share_request.specs.Asking.{Known}
-use Rattle.nonce_gather.specs.NonceGather.{Gathering, Recorded}
+use Rattle.nonce_gather.specs.NonceGather.{NoncesGathering, ResponseRecorded}
 
 -- after a response was put in, its message has a record
 same-self : (m : List ℕ) → sameBytes m m ≡ true
@@ -91,12 +91,12 @@ module _ (s : Coordinator) (shaped : Shaped s) (r i : ℕ) (r<4 : r < recordLimi
       }
 
 -- what a response is known to be
-module _ {s : Coordinator} {store m keys nonces : List ℕ} {room : ℕ} (g : Gathering s store m keys nonces room) where
+module _ {s : Coordinator} {store m keys nonces : List ℕ} {room : ℕ} (g : NoncesGathering s store m keys nonces room) where
   pub sent : Sent m keys nonces
   sent =
       record { short = g .short; whole-keys = g .whole-keys; whole-nonces = g .whole-nonces; few-keys = g .few-keys; few-nonces = g .few-nonces }
 
-  pub ready : Ready s keys
+  pub ready : VerdictReady s keys
   ready = record { signers = config-few s (within s (g .within)); records = records-few s (within s (g .within)); keys-few = g .few-keys }
 
   -- the verdict is to record it
@@ -147,14 +147,14 @@ module _ {s : Coordinator} {store m keys nonces : List ℕ} {room : ℕ} (g : Ga
             no-record after store′ (added-shaped s shaped r i row-low ids m keys nonces) after-is-within m (ltb-false _ _ e) in
             has-record (responseFor ids id m keys nonces) (coordinatorOf s store .round .message-nonces) (rw seen at gone)
 
-    pub recorded : Recorded after store′ m room
+    pub recorded : ResponseRecorded after store′ m room
     recorded =
         record { within = after-is-within; known = is-known; stored = omega (arith, kept-length, g .stored); short = g .short; wide = g .wide }
 
 -- the record's row is within the limits
 pub row-known :
-    {s : Coordinator} {store m : List ℕ} {room : ℕ} (r : ℕ) → Shaped s → r ≡ recordPlace m (s .records) store → Recorded s store m room
-    → Known s r (length store) (length m) room
+    {s : Coordinator} {store m : List ℕ} {room : ℕ} (r : ℕ) → Shaped s → r ≡ recordPlace m (s .records) store
+    → ResponseRecorded s store m room → Known s r (length store) (length m) room
 row-known {s} {store} {m} r shaped at k =
     let few = records-few s (within s (k .within)) in
     let four = shaped .rows in

@@ -27,7 +27,7 @@ use Rattle.state.specs.Turns.{Refines}
 use Rattle.state.proofs.Shape.{Shaped}
 use Rattle.state.proofs.Within.{within, is-within}
 use Rattle.state.proofs.Refines.{view-held, ask-refines}
-use Rattle.round.proofs.Viewed.{message-read, message-viewed, no-shares, no-shares-within}
+use Rattle.state.proofs.Viewed.{message-read, message-viewed, no-shares, no-shares-within}
 use Rattle.records.specs.declared.verdicts.Verdict.{Verdict}
 use Rattle.records.specs.declared.verdicts.Verdict.the-variants.{Wrong, Full, Nothing, Record}
 use Rattle.records.specs.Records.{responseFor, recordPlace, addedRecords, addedStore}
@@ -35,13 +35,13 @@ use Rattle.records.specs.Verdicts.{verdictOf, meaning}
 use Rattle.records.proofs.Decided.{found-record, decided}
 use Rattle.share_request.specs.ShareRequest.{requestFor}
 use Rattle.share_request.specs.Asking.{withCurrent, sharesRequested, shareRequestTurn}
-use Rattle.nonce_gather.specs.NonceGather.{alikeIn, receivedKeys, Gathering, Recorded, recordTurn, recordedTurn, verdictTurn, gatherTurn}
+use Rattle.nonce_gather.specs.NonceGather.{alikeIn, receivedKeys, NoncesGathering, ResponseRecorded, recordTurn, recordedTurn, verdictTurn, gatherTurn}
 use Rattle.nonce_gather.proofs.Recording.{seen, recorded, added-shaped, placed}
 
 -- once a response to m is recorded
 module _ (clock : ℕ) (t : SignatureType) (q : NonceResponse) (s : Coordinator) (store : List ℕ) {room : ℕ} (shaped : Shaped s)
     (long : length (s .message .bytes) ≡ messageLimit) (b : s .commissioned ≡ true) (typed : typeIn (s .position .state) ≡ Typed t)
-    (k : Recorded s store (q .message) room) where
+    (k : ResponseRecorded s store (q .message) room) where
   abbrev m : List ℕ
   m = q .message
 
@@ -113,7 +113,7 @@ module _ (clock : ℕ) (t : SignatureType) (q : NonceResponse) (s : Coordinator)
 
 module _ (clock : ℕ) (t : SignatureType) (ids : Ids) (id : ℕ) (m keys nonces : List ℕ) (s : Coordinator) (store : List ℕ) {room : ℕ} (shaped : Shaped s)
     (long : length (s .message .bytes) ≡ messageLimit) (b : s .commissioned ≡ true) (typed : typeIn (s .position .state) ≡ Typed t)
-    (g : Gathering s store m keys nonces room) where
+    (g : NoncesGathering s store m keys nonces room) where
   abbrev q : NonceResponse
   q = responseFor ids id m keys nonces
 

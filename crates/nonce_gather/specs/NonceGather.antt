@@ -32,7 +32,7 @@ abbrev pub receivedKeys : List ℕ → Coordinator → List ℕ → ℕ
 receivedKeys m s store = length (recvKeyIds (configOf (s .config)) (alikeIn m s store))
 
 -- what 4, 7, 8 and 9 have found of struct, store, response and buffer
-pub record Gathering (s : Coordinator) (store m keys nonces : List ℕ) (room : ℕ) : Type 0 where
+pub record NoncesGathering (s : Coordinator) (store m keys nonces : List ℕ) (room : ℕ) : Type 0 where
   pub within : isWithin s ≡ true
   pub stored : storeLength ≤ length store
   pub short : length m ≤ messageLimit
@@ -43,7 +43,7 @@ pub record Gathering (s : Coordinator) (store m keys nonces : List ℕ) (room : 
   pub wide : answerLength ≤ room
 
 -- what is known once a response to the message has been recorded
-pub record Recorded (s : Coordinator) (store m : List ℕ) (room : ℕ) : Type 0 where
+pub record ResponseRecorded (s : Coordinator) (store m : List ℕ) (room : ℕ) : Type 0 where
   pub within : isWithin s ≡ true
   pub known : recordPlace m (s .records) store < s .records .count
   pub stored : storeLength ≤ length store

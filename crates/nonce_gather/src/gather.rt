@@ -3,7 +3,7 @@ ghost use mathlib.Core.Path.{_≡_};
 ghost use lib.ListN.{length};
 ghost use Rattle.state.specs.Turns.{Did};
 ghost use Rattle.share_request.specs.Asking.{withCurrent};
-ghost use Rattle.nonce_gather.specs.NonceGather.{Recorded, recordTurn, recordedTurn, Gathering, gatherTurn};
+ghost use Rattle.nonce_gather.specs.NonceGather.{ResponseRecorded, recordTurn, recordedTurn, NoncesGathering, gatherTurn};
 ghost use Rattle.records.specs.declared.verdicts.Verdict.the-variants.{Record};
 ghost use Rattle.records.specs.Verdicts.{verdictOf};
 use layout::Ids;
@@ -22,7 +22,7 @@ fn replaced(s: Coordinator, message: &[u8]) -> Coordinator
     ensures { λ r. ⌜ r ≡ withCurrent (now (message .entry)) s ⌝ }
 {
     let last = s.message;
-    let current = round::with_message(last, message);
+    let current = state::replaced::with_message(last, message);
     let mut t = s;
     t.message = current;
     t
@@ -38,7 +38,7 @@ fn on_record(
     id: SignerId,
     message: &[u8],
 ) -> Done
-    requires { ⌜ Recorded s (now store) (now message) (length (now out)) ⌝ }
+    requires { ⌜ ResponseRecorded s (now store) (now message) (length (now out)) ⌝ }
     ensures { λ d. ⌜ Did (recordTurn clock «signature_type» (id .0) (now (message .entry)) s (now (store .entry)))
         (now (out .entry)) d (now (store .entry)) (now (out .exit)) ⌝ }
 {
@@ -73,7 +73,7 @@ fn put_on_record(
     key_ids: &[u8],
     nonces: &[u8],
 ) -> Done
-    requires { ⌜ Gathering s (now store) (now message) (now «key_ids») (now nonces) (length (now out))
+    requires { ⌜ NoncesGathering s (now store) (now message) (now «key_ids») (now nonces) (length (now out))
         × (verdictOf s ids (id .0) (now store) (now message) (now «key_ids») (now nonces) ≡ Record r i) ⌝ }
     ensures { λ d. ⌜ Did (recordedTurn clock «signature_type» r i ids (id .0) (now (message .entry)) (now («key_ids» .entry))
         (now (nonces .entry)) s (now (store .entry))) (now (out .entry)) d (now (store .exit)) (now (out .exit)) ⌝ }
@@ -97,7 +97,7 @@ pub fn gather_nonces(
     key_ids: &[u8],
     nonces: &[u8],
 ) -> Done
-    requires { ⌜ Gathering s (now store) (now message) (now «key_ids») (now nonces) (length (now out)) ⌝ }
+    requires { ⌜ NoncesGathering s (now store) (now message) (now «key_ids») (now nonces) (length (now out)) ⌝ }
     ensures { λ d. ⌜ Did (gatherTurn clock «signature_type» ids (id .0) (now (message .entry)) (now («key_ids» .entry))
         (now (nonces .entry)) s (now (store .entry))) (now (out .entry)) d (now (store .exit)) (now (out .exit)) ⌝ }
 {

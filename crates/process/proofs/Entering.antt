@@ -18,9 +18,9 @@ use Rattle.state.specs.declared.fields.Coordinator.{Coordinator}
 use Rattle.state.specs.Turns.{Did, refusedAnswer, asked}
 use Rattle.state.proofs.Turns.{error-did, answered-all}
 use Rattle.messages.specs.Messages.{Incoming}
-use Rattle.entries.specs.declared.Entry.{Entry}
-use Rattle.entries.specs.Entries.{entryTurn}
-use Rattle.process.specs.Process.{decodedTurn, readTurn, askingPacket, refusalOf, Ready}
+use Rattle.packet_entry.specs.declared.Entry.{Entry}
+use Rattle.packet_entry.specs.Entries.{entryTurn}
+use Rattle.process.specs.Process.{decodedTurn, readTurn, askingPacket, refusalOf, PacketReady}
 
 -- the reader's number says what the packet decodes to
 is-refused : (x : Decoded) (n : ℕ) → n ≡ counted x .refusal → (n ≡ 0 → ⊥) → x ≡ refused n
@@ -55,12 +55,12 @@ module _ (entry : Entry) (clock : ℕ) (verdict : Bool) (p : List ℕ) (s : Coor
   taken-did store′ out′ z f = rw (is-taken p (sym e ∙ z) .decoded) f
 
 pub incoming :
-    {s : Coordinator} {store p : List ℕ} {h : Header} {n room : ℕ} → Ready s store room → n ≡ refusalOf p → n ≡ 0 → h ≡ headerIn p → Incoming s store p h room
+    {s : Coordinator} {store p : List ℕ} {h : Header} {n room : ℕ} → PacketReady s store room → n ≡ refusalOf p → n ≡ 0 → h ≡ headerIn p → Incoming s store p h room
 incoming {s} {store} {p} {h} r e z h-is =
     let t = is-taken p (sym e ∙ z) in
     record { within = r .within; stored = r .stored; laid-out = t .laid-out; short = t .short; header = h-is; wide = r .wide }
 
-pub ready : (s : Coordinator) (store : List ℕ) (room : ℕ) → asked askingPacket (length store) room s ≡ Yes → Ready s store room
+pub ready : (s : Coordinator) (store : List ℕ) (room : ℕ) → asked askingPacket (length store) room s ≡ Yes → PacketReady s store room
 ready s store room e =
     let a = answered-all askingPacket (length store) room s e in
     record { within = a .within; stored = a .stored; wide = leb-true answerLength room (a .roomy) }

@@ -17,9 +17,9 @@ use Rattle.state.proofs.fields.Coordinator as C
 use Rattle.state.proofs.fields.Coordinator.Laws as C′
 use Rattle.state.proofs.answers.Done as Dn
 use Rattle.state.proofs.answers.Done.Laws as Dn′
-use Rattle.entries.specs.declared.Entry.{Entry}
-use Rattle.entries.proofs.Entry as E
-use Rattle.entries.proofs.Entry.Laws as E′
+use Rattle.packet_entry.specs.declared.Entry.{Entry}
+use Rattle.packet_entry.proofs.Entry as E
+use Rattle.packet_entry.proofs.Entry.Laws as E′
 
 -- a `&mut` slice's type in MIR, at a lifetime
 abbrev pub mutSliceAt : Lifetime → Ty

@@ -18,9 +18,9 @@ use Rattle.state.specs.View.{view, coordinatorOf}
 use Rattle.state.specs.Turns.{asked, Refines}
 use Rattle.state.proofs.Shape.{Shaped}
 use Rattle.state.proofs.Refines.{on-asked, error-refines, callOf}
-use Rattle.entries.specs.declared.Entry.{Entry}
-use Rattle.entries.specs.Entries.{entryOf}
-use Rattle.entries.proofs.Refines.{entry-refines}
+use Rattle.packet_entry.specs.declared.Entry.{Entry}
+use Rattle.packet_entry.specs.Entries.{entryOf}
+use Rattle.packet_entry.proofs.Refines.{entry-refines}
 use Rattle.process.specs.Process.{decodedTurn, readTurn, askingPacket, receiveTurn}
 use Rattle.process.proofs.Entering.{ready}
 

@@ -11,8 +11,8 @@ use Rattle.state.specs.declared.fields.Coordinator.{Coordinator}
 use Rattle.state.specs.Counts.{isWithin}
 use Rattle.state.specs.Turns.{Turn, errorTurn, asked, unless}
 use Rattle.packet_in_hand.specs.InHand.{counted}
-use Rattle.entries.specs.declared.Entry.{Entry}
-use Rattle.entries.specs.Entries.{entryTurn}
+use Rattle.packet_entry.specs.declared.Entry.{Entry}
+use Rattle.packet_entry.specs.Entries.{entryTurn}
 
 -- 8 and 9
 unfoldable pub decodedTurn : Decoded → Entry → ℕ → Bool → List ℕ → Coordinator → List ℕ → Turn
@@ -35,7 +35,7 @@ abbrev pub refusalOf : List ℕ → ℕ
 refusalOf p = counted (decode p) .refusal
 
 -- what 4 and 7 have found
-pub record Ready (s : Coordinator) (store : List ℕ) (room : ℕ) : Type 0 where
+pub record PacketReady (s : Coordinator) (store : List ℕ) (room : ℕ) : Type 0 where
   pub within : isWithin s ≡ true
   pub stored : storeLength ≤ length store
   pub wide : answerLength ≤ room

@@ -2,9 +2,9 @@
 ghost use mathlib.Core.Path.{_≡_};
 ghost use lib.ListN.{length};
 ghost use Rattle.state.specs.Turns.{Did};
-ghost use Rattle.entries.specs.declared.Entry.the-variants.{Process, ProcessMessage};
-ghost use Rattle.process.specs.Process.{receiveTurn, readTurn, refusalOf, Ready};
-use entries::Entry;
+ghost use Rattle.packet_entry.specs.declared.Entry.the-variants.{Process, ProcessMessage};
+ghost use Rattle.process.specs.Process.{receiveTurn, readTurn, refusalOf, PacketReady};
+use packet_entry::Entry;
 use packet_in_hand::Opened;
 use state::answers;
 use state::answers::Asks;
@@ -23,7 +23,7 @@ fn unless_refused(
     refusal: u8,
     entry: Entry,
 ) -> Done
-    requires { ⌜ Ready s (now store) (length (now out)) × (refusal ≡ refusalOf (now bytes)) ⌝ }
+    requires { ⌜ PacketReady s (now store) (length (now out)) × (refusal ≡ refusalOf (now bytes)) ⌝ }
     ensures { λ d. ⌜ Did (readTurn entry clock verdict (now (bytes .entry)) s (now (store .entry)))
         (now (out .entry)) d (now (store .exit)) (now (out .exit)) ⌝ }
 {
@@ -31,7 +31,7 @@ fn unless_refused(
         return answers::refused(s, refusal as u32);
     }
     let h = frame::header(bytes);
-    entries::enter(s, store, out, clock, verdict, bytes, h, entry)
+    packet_entry::enter(s, store, out, clock, verdict, bytes, h, entry)
 }
 
 // The packet in hand, taken apart.
@@ -44,7 +44,7 @@ fn deliver<'a, 'b, 'p>(
     opened: Opened<'p>,
     entry: Entry,
 ) -> Done
-    requires { ⌜ Ready s (now store) (length (now out)) × (opened .refusal ≡ refusalOf (now (opened .packet .bytes))) ⌝ }
+    requires { ⌜ PacketReady s (now store) (length (now out)) × (opened .refusal ≡ refusalOf (now (opened .packet .bytes))) ⌝ }
     ensures { λ d. ⌜ Did (readTurn entry clock verdict (now (opened .entry .packet .bytes)) s (now (store .entry)))
         (now (out .entry)) d (now (store .exit)) (now (out .exit)) ⌝ }
 {
@@ -71,7 +71,7 @@ fn read<'a, 'b, 'p>(
     bytes: &'p [u8],
     entry: Entry,
 ) -> Done
-    requires { ⌜ Ready s (now store) (length (now out)) ⌝ }
+    requires { ⌜ PacketReady s (now store) (length (now out)) ⌝ }
     ensures { λ d. ⌜ Did (readTurn entry clock verdict (now (bytes .entry)) s (now (store .entry)))
         (now (out .entry)) d (now (store .exit)) (now (out .exit)) ⌝ }
 {

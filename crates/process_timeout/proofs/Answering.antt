@@ -12,14 +12,14 @@ use Rattle.state.specs.declared.fields.Coordinator.{Coordinator}
 use Rattle.state.specs.Turns.{Turn, Did, plainAnswer}
 use Rattle.state.proofs.Turns.{plain-did}
 use Rattle.state.proofs.Within.{within, config-few, records-few}
-use Rattle.timeouts.specs.NonceTimeout.{Ready, nonceTimeoutTurn}
+use Rattle.timeouts.specs.NonceTimeout.{TimeoutReady, nonceTimeoutTurn}
 use Rattle.share_timeout.specs.ShareTimeout.{Late, shareTimeoutTurn}
 use Rattle.process_timeout.specs.declared.dues.Due.{Due}
 use Rattle.process_timeout.specs.declared.dues.Due.the-variants.{Nothing, Nonces, Shares}
 use Rattle.process_timeout.specs.Due.{dueTurn, quietTurn}
 use Rattle.process_timeout.proofs.dues.Due as Due-type
 
-pub ready : (s : Coordinator) (room : ℕ) → Late s room → Ready s room
+pub ready : (s : Coordinator) (room : ℕ) → Late s room → TimeoutReady s room
 ready s room l =
     let w = within s (l .within) in
     record { signers = config-few s w; records = records-few s w; message = leb-true _ _ (w .message); wide = l .wide }

@@ -46,7 +46,7 @@ meaning Nothing = ignored
 meaning (Record r i) = records
 
 -- the counts that question 4 lets through, and 9
-pub record Ready (s : Coordinator) (keys : List ℕ) : Type 0 where
+pub record VerdictReady (s : Coordinator) (keys : List ℕ) : Type 0 where
   pub signers : s .config .count ≤ signerLimit
   pub records : s .records .count ≤ recordLimit
   pub keys-few : length keys ≤ keyBytes

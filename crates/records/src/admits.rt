@@ -1,4 +1,4 @@
-// Whether a response is admitted: a configured signer's, key generation ended, its exact key set, valid nonces, not struck.
+// Whether a response is admitted: a configured signer's, key generation ended, its exact key set, valid nonces, not malicious.
 ghost use mathlib.Core.Path.{_≡_};
 ghost use Prim.Native.Nat.{_≤_, _<_};
 ghost use lib.ListN.{length};
@@ -12,7 +12,7 @@ use state::fields::Coordinator;
 use validity::keys;
 use validity::nonces;
 
-// Where a signer among.
+// The slot of a signer among those configured, where it is one of them.
 pub enum Slot {
     At(usize),
     Nowhere,

@@ -3,7 +3,7 @@ ghost use mathlib.Core.Path.{_≡_};
 ghost use Prim.Native.Nat.{_≤_, _<_};
 ghost use Rattle.layout.specs.Limits.{signerLimit, recordLimit};
 ghost use Rattle.records.specs.Records.{Placed};
-ghost use Rattle.records.specs.Verdicts.{heldAt, verdictOn, verdictAt, verdictOf, Ready};
+ghost use Rattle.records.specs.Verdicts.{heldAt, verdictOn, verdictAt, verdictOf, VerdictReady};
 use crate::admits;
 use crate::admits::Slot;
 use crate::records;
@@ -56,7 +56,7 @@ fn verdict_at(
     key_ids: &[u8],
     nonces: &[u8],
 ) -> Verdict
-    requires { ⌜ Ready s (now «key_ids») × (i < signerLimit) ⌝ }
+    requires { ⌜ VerdictReady s (now «key_ids») × (i < signerLimit) ⌝ }
     ensures { λ v. ⌜ v ≡ verdictAt s (now (store .entry)) (now (message .entry)) (now («key_ids» .entry)) (now (nonces .entry)) i ⌝ }
 {
     if !admits::is_admitted(s, i, key_ids, nonces) {
@@ -77,7 +77,7 @@ pub fn decide(
     key_ids: &[u8],
     nonces: &[u8],
 ) -> Verdict
-    requires { ⌜ Ready s (now «key_ids») ⌝ }
+    requires { ⌜ VerdictReady s (now «key_ids») ⌝ }
     ensures { λ v. ⌜ v
         ≡ verdictOf s got (id .0) (now (store .entry)) (now (message .entry)) (now («key_ids» .entry)) (now (nonces .entry)) ⌝ }
 {

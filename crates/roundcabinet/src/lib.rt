@@ -8,38 +8,38 @@ ghost use lib.ListN.{length, take, drop};
 ghost use Rattle.layout.specs.Decode.{decode};
 ghost use Rattle.parts.specs.Parts.{partIn};
 ghost use Rattle.packet_in_hand.specs.InHand.{counted};
-ghost use Rattle.reading.specs.Plain.{packetOf, placeIn};
+ghost use Rattle.library_reader.specs.Plain.{packetOf, placeIn};
 ghost use Rattle.layout.specs.Messages.{nonceRequest, dkgBegin, dkgSigner, dkgCoordinator};
 ghost use Rattle.framing.specs.Writing.{writeMessage};
 ghost use Rattle.body.specs.Body.{requestOf};
 ghost use Rattle.requests.specs.Requests.{writeShareRequest};
 ghost use Rattle.writer.specs.Results.{writeNonceTimeout, writeInsufficientSigners};
 ghost use Rattle.job.specs.Job.{writeJob};
-ghost use Rattle.writing.specs.Given.{headOf, signersGiven, responsesOf, jobPlacesOf};
-ghost use Rattle.writing.specs.Written.{typed, WrotePlain};
+ghost use Rattle.library_writers.specs.Given.{headOf, signersGiven, responsesOf, jobPlacesOf};
+ghost use Rattle.library_writers.specs.Written.{typed, WrotePlain};
 ghost use Rattle.state_bytes.specs.Places.{stateLength};
 ghost use Rattle.interface.specs.Configs.{configOf, isYes};
 ghost use Rattle.interface.specs.Called.{Called};
-ghost use Rattle.commissioning.specs.Commissioned.{commissionedTurn};
+ghost use Rattle.library_commission.specs.Commissioned.{commissionedTurn};
 ghost use Rattle.calls.specs.Calls.{setKeyTurn, aggregatedTurn};
 ghost use Rattle.calls.specs.Resets.{resetTurn};
 ghost use Rattle.results.specs.Results.{resultsTurn};
 ghost use Rattle.state_bytes.specs.Loaded.{isSaved, loaded};
-ghost use Rattle.starting.specs.Given.{signIdGiven, startedTurn, movedTurn};
-ghost use Rattle.entries.specs.declared.Entry.the-variants.{Process, ProcessMessage};
+ghost use Rattle.library_start.specs.Given.{signIdGiven, startedTurn, movedTurn};
+ghost use Rattle.packet_entry.specs.declared.Entry.the-variants.{Process, ProcessMessage};
 ghost use Rattle.process.specs.Process.{receiveTurn};
 ghost use Rattle.process_timeout.specs.ProcessTimeout.{processTimeoutTurn};
 ghost use Rattle.calls.specs.declared.held_keys.HeldKey.the-variants as Which;
 use interface::answers::RcAnswer;
 use interface::configs::RcConfig;
-use reading::RcPacket;
-use reading::RcPart;
-use writing::given::RcHead;
-use writing::given::RcJobPlaces;
-use writing::given::RcResponses;
-use writing::given::RcSignerIds;
-use writing::written;
-use writing::written::RcWritten;
+use library_reader::RcPacket;
+use library_reader::RcPart;
+use library_writers::given::RcHead;
+use library_writers::given::RcJobPlaces;
+use library_writers::given::RcResponses;
+use library_writers::given::RcSignerIds;
+use library_writers::written;
+use library_writers::written::RcWritten;
 
 // A state buffer that is too short is refused with 4, and nothing is written.
 #[no_mangle]
@@ -48,7 +48,7 @@ pub extern "C" fn rc_commission(state: &mut [u8], store: &mut [u8], config: RcCo
         (commissionedTurn (configOf config) (length (now (state .entry))) (now (store .entry)))
         (now (state .entry)) [] r (now (state .exit)) (now (store .exit)) [] ⌝ }
 {
-    commissioning::commission(state, store, config)
+    library_commission::commission(state, store, config)
 }
 
 #[no_mangle]
@@ -57,7 +57,7 @@ pub extern "C" fn rc_set_coordinator_key(state: &mut [u8], store: &[u8], held: u
         (setKeyTurn Which.Coordinator (isYes held) (loaded (now (state .entry))) (now (store .entry)))
         (now (state .entry)) [] r (now (state .exit)) (now (store .entry)) [] ⌝ }
 {
-    notices::set_coordinator_key(state, store, held)
+    library_updates::set_coordinator_key(state, store, held)
 }
 
 #[no_mangle]
@@ -66,7 +66,7 @@ pub extern "C" fn rc_set_group_key(state: &mut [u8], store: &[u8], held: u8) -> 
         (setKeyTurn Which.Aggregate (isYes held) (loaded (now (state .entry))) (now (store .entry)))
         (now (state .entry)) [] r (now (state .exit)) (now (store .entry)) [] ⌝ }
 {
-    notices::set_group_key(state, store, held)
+    library_updates::set_group_key(state, store, held)
 }
 
 #[no_mangle]
@@ -80,7 +80,7 @@ pub extern "C" fn rc_take_results(
         (resultsTurn «dkg_id» (now (ended .entry)) (loaded (now (state .entry))) (now (store .entry)))
         (now (state .entry)) [] r (now (state .exit)) (now (store .entry)) [] ⌝ }
 {
-    notices::take_results(state, store, dkg_id, ended)
+    library_updates::take_results(state, store, dkg_id, ended)
 }
 
 // sign_id counts where sign_id_given is not 0; the root where the type is 3.
@@ -101,7 +101,7 @@ pub extern "C" fn rc_start_signing_round(
         (length (now (out .entry))) (loaded (now (state .entry))) (now (store .entry)))
         (now (state .entry)) (now (out .entry)) r (now (state .exit)) (now (store .entry)) (now (out .exit)) ⌝ }
 {
-    starting::start_signing_round(
+    library_start::start_signing_round(
         state,
         store,
         out,
@@ -128,7 +128,7 @@ pub extern "C" fn rc_process(
         (loaded (now (state .entry))) (now (store .entry)))
         (now (state .entry)) (now (out .entry)) r (now (state .exit)) (now (store .exit)) (now (out .exit)) ⌝ }
 {
-    receiving::process(state, store, out, clock, verdict, packet)
+    library_process::process(state, store, out, clock, verdict, packet)
 }
 
 #[no_mangle]
@@ -145,7 +145,7 @@ pub extern "C" fn rc_process_message(
         (loaded (now (state .entry))) (now (store .entry)))
         (now (state .entry)) (now (out .entry)) r (now (state .exit)) (now (store .exit)) (now (out .exit)) ⌝ }
 {
-    receiving::process_message(state, store, out, clock, verdict, packet)
+    library_process::process_message(state, store, out, clock, verdict, packet)
 }
 
 #[no_mangle]
@@ -159,7 +159,7 @@ pub extern "C" fn rc_process_timeout(
         (processTimeoutTurn clock (length (now (out .entry))) (loaded (now (state .entry))) (now (store .entry)))
         (now (state .entry)) (now (out .entry)) r (now (state .exit)) (now (store .entry)) (now (out .exit)) ⌝ }
 {
-    receiving::process_timeout(state, store, out, clock)
+    library_process::process_timeout(state, store, out, clock)
 }
 
 #[no_mangle]
@@ -168,7 +168,7 @@ pub extern "C" fn rc_aggregated(state: &mut [u8], store: &[u8], ok: u8) -> RcAns
         (aggregatedTurn (isYes ok) (loaded (now (state .entry))) (now (store .entry)))
         (now (state .entry)) [] r (now (state .exit)) (now (store .entry)) [] ⌝ }
 {
-    notices::aggregated(state, store, ok)
+    library_updates::aggregated(state, store, ok)
 }
 
 #[no_mangle]
@@ -176,7 +176,7 @@ pub extern "C" fn rc_reset(state: &mut [u8], store: &[u8]) -> RcAnswer
     ensures { λ r. ⌜ Called (isSaved (now (state .entry))) (resetTurn (loaded (now (state .entry))) (now (store .entry)))
         (now (state .entry)) [] r (now (state .exit)) (now (store .entry)) [] ⌝ }
 {
-    notices::reset(state, store)
+    library_updates::reset(state, store)
 }
 
 #[no_mangle]
@@ -191,14 +191,14 @@ pub extern "C" fn rc_can_move_to(
         (movedTurn next «signature_type» (now (root .entry)) (loaded (now (state .entry))) (now (store .entry)))
         (now (state .entry)) [] r (now (state .exit)) (now (store .entry)) [] ⌝ }
 {
-    starting::can_move_to(state, store, next, signature_type, root)
+    library_start::can_move_to(state, store, next, signature_type, root)
 }
 
 #[no_mangle]
 pub extern "C" fn rc_read_packet(packet: &[u8]) -> RcPacket
     ensures { λ r. ⌜ r ≡ packetOf (decode (now (packet .entry))) ⌝ }
 {
-    reading::read_packet(packet)
+    library_reader::read_packet(packet)
 }
 
 // A part lies inside its packet, whatever the bytes.
@@ -209,7 +209,7 @@ pub extern "C" fn rc_packet_part(packet: &[u8], i: u16) -> RcPart
         ≡ partIn (now (packet .entry)) (counted (decode (now (packet .entry))) .pairs) i)
         × (r .at + r .length ≤ length (now (packet .entry))) ⌝ }
 {
-    reading::packet_part(packet, i)
+    library_reader::packet_part(packet, i)
 }
 
 // Bench's writers, called alone: 7 and 9, and 8 for a type above 3.

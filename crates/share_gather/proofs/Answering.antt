@@ -18,10 +18,10 @@ use Rattle.share_verdicts.specs.declared.Verdict.the-variants.{Unawaited, Wrong
 use Rattle.share_verdicts.specs.Verdicts.{verdictOf, Asked}
 use Rattle.share_verdicts.proofs.Deciding.{Told, told}
 use Rattle.share_taking.specs.Taking.{Taking, takeTurn}
-use Rattle.share_gather.specs.ShareGather.{freed, verdictTurn, gatherSharesTurn, Gathering}
+use Rattle.share_gather.specs.ShareGather.{freed, verdictTurn, gatherSharesTurn, SharesGathering}
 use Rattle.share_gather.proofs.Freeing.{freed-within}
 
-pub asked : {s : Coordinator} {store p : List ℕ} {h : Header} {room : ℕ} → Gathering s store p h room → Asked s p h
+pub asked : {s : Coordinator} {store p : List ℕ} {h : Header} {room : ℕ} → SharesGathering s store p h room → Asked s p h
 asked g = record { within = g .within; header = g .header; shares = g .shares }
 
 module _ (p : List ℕ) (h : Header) (header : h ≡ headerIn p) (s : Coordinator) (store : List ℕ) (v : Verdict)
@@ -35,7 +35,7 @@ module _ (p : List ℕ) (h : Header) (header : h ≡ headerIn p) (s : Coordinato
   waiter-told u e =
       subst (λ (n : ℕ). Told s store n u) signer (subst (Told s store (shareResponseIn p .signer-id)) (sym decided ∙ e) (told s store (shareResponseIn p)))
 
-  pub taking : {room : ℕ} (r i : ℕ) → Shaped s → v ≡ Good r i → Gathering s store p h room → Taking (freed r i s) store p h r i room
+  pub taking : {room : ℕ} (r i : ℕ) → Shaped s → v ≡ Good r i → SharesGathering s store p h room → Taking (freed r i s) store p h r i room
   taking r i shaped e g =
       let w = waiter-told (Good r i) e in
       record {

@@ -26,7 +26,7 @@ use Rattle.share_verdicts.proofs.Deciding.{Waiter}
 use Rattle.share_verdicts.proofs.Decided.{decided}
 use Rattle.share_taking.specs.Taking.{takeTurn}
 use Rattle.share_taking.proofs.Refines.{take-refines}
-use Rattle.share_gather.specs.ShareGather.{freed, verdictTurn, gatherSharesTurn, Gathering}
+use Rattle.share_gather.specs.ShareGather.{freed, verdictTurn, gatherSharesTurn, SharesGathering}
 use Rattle.share_gather.proofs.Freeing.{freed-within, freed-shaped, freed-place, freed-seen}
 use Rattle.share_gather.proofs.Answering.{waiter-told, taking}
 
@@ -38,7 +38,7 @@ module _ (t : SignatureType) (p : List ℕ) (s : Coordinator) (store : List ℕ)
   abbrev q₀ : SignatureShareResponse
   q₀ = shareResponseIn p
 
-  module _ {room : ℕ} (g : Gathering s store p (headerIn p) room) where
+  module _ {room : ℕ} (g : SharesGathering s store p (headerIn p) room) where
     -- the waiter is removed
     free-viewed : (r i : ℕ) → Waiter s store (headerIn p .«signer_id») r i → view (freed r i s) store ≡ C.commissioned (freeing (q₀ .signer-id) c₀)
     unfolding shareResponseIn
@@ -64,9 +64,9 @@ module _ (t : SignatureType) (p : List ℕ) (s : Coordinator) (store : List ℕ)
         (freed-place s store id r i (g .within) waiter shaped)
         (taking p (headerIn p) refl s store _ e r i shaped refl g))
 
-  pub gather-shares-refines : {h : Header} {room : ℕ} → Gathering s store p h room
+  pub gather-shares-refines : {h : Header} {room : ℕ} → SharesGathering s store p h room
       → Refines (gatherSharesTurn t p s store) (gatherShares t (coordinatorOf s store .position .root) (shareResponseIn p) (coordinatorOf s store))
   unfolding gatherSharesTurn
   gather-shares-refines {h} {room} g =
-      let known : Gathering s store p (headerIn p) room = subst (λ (x : Header). Gathering s store p x room) (g .header) g in
+      let known : SharesGathering s store p (headerIn p) room = subst (λ (x : Header). SharesGathering s store p x room) (g .header) g in
       rw (decided s store shaped (g .within) (shareResponseIn p)) (by-verdict known (verdictOf s store (shareResponseIn p)) refl)

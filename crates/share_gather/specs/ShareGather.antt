@@ -45,7 +45,7 @@ unfoldable pub gatherSharesTurn : SignatureType → List ℕ → Coordinator →
 gatherSharesTurn t p s store = verdictTurn t p (headerIn p) s store (verdictOf s store (shareResponseIn p))
 
 -- what 4, 7, 8 and 9 have found of struct, store, packet and buffer; h is the packet's header
-pub record Gathering (s : Coordinator) (store p : List ℕ) (h : Header) (room : ℕ) : Type 0 where
+pub record SharesGathering (s : Coordinator) (store p : List ℕ) (h : Header) (room : ℕ) : Type 0 where
   pub within : isWithin s ≡ true
   pub stored : storeLength ≤ length store
   pub wide : answerLength ≤ room

@@ -4,7 +4,7 @@ ghost use Prim.Native.Nat.{_<_};
 ghost use lib.ListN.{length};
 ghost use Rattle.layout.specs.Limits.{signerLimit, recordLimit};
 ghost use Rattle.state.specs.Turns.{Did};
-ghost use Rattle.share_gather.specs.ShareGather.{freed as freedOf, Gathering, gatherSharesTurn};
+ghost use Rattle.share_gather.specs.ShareGather.{freed as freedOf, SharesGathering, gatherSharesTurn};
 use layout::Header;
 use layout::SignatureType;
 use share_verdicts::Verdict;
@@ -38,7 +38,7 @@ pub fn gather_shares(
     packet: &[u8],
     h: Header,
 ) -> Done
-    requires { ⌜ Gathering s (now store) (now packet) h (length (now out)) ⌝ }
+    requires { ⌜ SharesGathering s (now store) (now packet) h (length (now out)) ⌝ }
     ensures { λ d. ⌜ Did (gatherSharesTurn «signature_type» (now (packet .entry)) s (now (store .entry)))
         (now (out .entry)) d (now (store .exit)) (now (out .exit)) ⌝ }
 {

@@ -14,7 +14,7 @@ use Rattle.state.specs.Counts.{isWithin, rowWithin}
 use Rattle.state.specs.View.{noRow}
 use Rattle.state.specs.Setters.{setMessage, setPosition, setShares, setClocks}
 use Rattle.state.specs.Turns.{Turn}
-use Rattle.round.specs.Round.{messageWith, noneHeld}
+use Rattle.state.specs.Replaced.{messageWith, noneHeld}
 use Rattle.share_request.specs.ShareRequest.{requestFor, requestBytes}
 
 -- "The answered message replaces the current one"

@@ -26,8 +26,8 @@ fn requested(
     ensures { λ r. ⌜ r ≡ sharesRequested clock «signature_type» (now (message .entry)) s ⌝ }
 {
     let last = s.message;
-    let current = round::with_message(last, message);
-    let shares = round::no_shares();
+    let current = state::replaced::with_message(last, message);
+    let shares = state::replaced::no_shares();
     let old = s.position;
     let root = old.root;
     let state = State::SigShareGather(signature_type);

@@ -28,7 +28,7 @@ use Rattle.state.proofs.Shape.{Shaped}
 use Rattle.shares.specs.Shares.{keptStore, keptShares}
 use Rattle.shares.proofs.Recorded.{kept-within, kept-length}
 use Rattle.signing_job.specs.SigningJob.{responses, sharesHeld, jobBytes}
-use Rattle.share_taking.specs.Taking.{Recorded, jobTurn, Taking, takeTurn}
+use Rattle.share_taking.specs.Taking.{SharesRecorded, jobTurn, Taking, takeTurn}
 
 pub message-short : (s : Coordinator) → isWithin s ≡ true → s .message .len ≤ messageLimit
 message-short s w = leb-true (s .message .len) messageLimit (within s w .message)
@@ -67,7 +67,7 @@ module _ (t : SignatureType) (p : List ℕ) (h : Header) (r i : ℕ) (s : Coordi
       last-did u store′ out′ e k z f = rw (free, ← asked, e, ← k, ← z) f
 
   -- once they are kept, what the job asks holds
-  pub taken : {room : ℕ} → Shaped s → getD (s .shares .slots) i noShares .held ≡ false → Taking s store p h r i room → Recorded kept r (length (keptStore i parts store)) room
+  pub taken : {room : ℕ} → Shaped s → getD (s .shares .slots) i noShares .held ≡ false → Taking s store p h r i room → SharesRecorded kept r (length (keptStore i parts store)) room
   taken shaped free g =
       record {
         within = kept-within s store shaped (g .within) (g .stored) (h .«signer_id») i (g .found) free parts (g .shares);

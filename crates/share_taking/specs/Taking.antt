@@ -31,7 +31,7 @@ pub record Taking (s : Coordinator) (store p : List ℕ) (h : Header) (r i room 
   pub known : r < s .records .count
 
 -- what is known once the last waiter's shares are recorded
-pub record Recorded (s : Coordinator) (r store room : ℕ) : Type 0 where
+pub record SharesRecorded (s : Coordinator) (r store room : ℕ) : Type 0 where
   pub within : isWithin s ≡ true
   pub known : r < s .records .count
   pub stored : storeLength ≤ store

@@ -3,7 +3,7 @@ ghost use mathlib.Core.Path.{_≡_};
 ghost use Prim.Native.Nat.{ℕ};
 ghost use lib.ListN.{length};
 ghost use Rattle.state.specs.Turns.{Did};
-ghost use Rattle.share_taking.specs.Taking.{Recorded, jobTurn, Taking, takeTurn};
+ghost use Rattle.share_taking.specs.Taking.{SharesRecorded, jobTurn, Taking, takeTurn};
 use framing::Written;
 use layout::Header;
 use layout::SignatureType;
@@ -21,7 +21,7 @@ fn hand_job(
     signature_type: SignatureType,
     r: usize,
 ) -> Done
-    requires { ⌜ Recorded s r (length (now store)) (length (now out)) ⌝ }
+    requires { ⌜ SharesRecorded s r (length (now store)) (length (now out)) ⌝ }
     ensures { λ d. ⌜ ((id : ℕ) → Did (jobTurn «signature_type» id r s (now (store .entry)))
         (now (out .entry)) d (now (store .entry)) (now (out .exit))) ⌝ }
 {

@@ -14,11 +14,11 @@ use Rattle.state.specs.View.{noRow}
 use Rattle.state.specs.Turns.{Did, unless, refusedAnswer}
 use Rattle.state.proofs.Turns.{refused-did}
 use Rattle.signer_ids.specs.Flags.{isWaiting}
-use Rattle.timeout_results.specs.Named.{flaggedSigners}
+use Rattle.timeouts.specs.Named.{flaggedSigners}
 use Rattle.starts.specs.Starts.{requestTurn}
 use Rattle.timeouts.specs.NonceTimeout.{currentPlace, recordAsked}
 use Rattle.share_timeout.specs.Exclusion.{excludedIn, tooFewKeys}
-use Rattle.share_timeout.specs.ShareTimeout.{insufficientTurn, retryTurn, excludedTurn, newlyMarked, rowTurn, shareTimeoutTurn}
+use Rattle.share_timeout.specs.ShareTimeout.{insufficientTurn, retryTurn, excludedTurn, newMalicious, rowTurn, shareTimeoutTurn}
 
 -- marks are nothing that 4 counts
 pub excluded-within : (waits : List Bool) (s : Coordinator) → isWithin s ≡ true → isWithin (excludedIn waits s) ≡ true
@@ -35,7 +35,7 @@ module _ (clock : ℕ) (t : SignatureType) (s : Coordinator) (store : List ℕ) 
       (u : Coordinator) (excluded : u ≡ excludedIn waits s) (few : Bool) (counted : few ≡ tooFewKeys (u .marks .malicious) u)
     where
       pub insufficient-did :
-          few ≡ true → (out′ : List ℕ) → Did (insufficientTurn (flaggedSigners (u .config) (u .marks .malicious)) (newlyMarked (getD (s .records .rows) p noRow) s) u store) out d store out′
+          few ≡ true → (out′ : List ℕ) → Did (insufficientTurn (flaggedSigners (u .config) (u .marks .malicious)) (newMalicious (getD (s .records .rows) p noRow) s) u store) out d store out′
           → Did (shareTimeoutTurn clock t s store) out d store out′
       unfolding shareTimeoutTurn recordAsked unless rowTurn excludedTurn
       insufficient-did y out′ e = rw (← at, lt-ltb p (s .records .count) h, ← waiting, ← excluded, ← counted, y) e

@@ -1,4 +1,4 @@
--- The key sets of the marked signers add up to at most num_keys, by question 4.
+-- The key sets of the malicious signers add up to at most num_keys, by question 4.
 -- Assumes nothing.
 use Prim.Native.Nat.{ℕ, suc, _+_, _<_, _≤_}
 use mathlib.Core.Path.{_≡_, sym}
@@ -19,8 +19,7 @@ use Rattle.state.specs.Slots.{signerSlot, placeSlot, slotsFrom, collect}
 use Rattle.state.specs.Counts.{sum, entries, keyCount, isWithin}
 use Rattle.state.specs.View.{entryId, noEntry, slotsOf, configOf, flaggedIn}
 use Rattle.state.proofs.Within.{within, keys-few}
-use Rattle.key_sets.specs.Sets.{setOf}
-use Rattle.key_counts.specs.Sets.{flaggedSizes}
+use Rattle.key_counts.specs.Sets.{setOf, flaggedSizes}
 use Rattle.key_counts.proofs.Walking.{sizes}
 
 -- a set is no larger than it counts
@@ -78,12 +77,12 @@ module _ (ss : List SignerEntry) (flags : List Bool) where
       let fits : size (signerSlot (entryId x) k) ≤ keyCount x = rw here (set-size x) in
       omega (arith, placed (signerSlot (entryId x) k) (slotsFrom (k + 1) (map entryId xs)))
 
--- the keys of marked signers are keys of signers
-pub marked-few :
+-- the keys of malicious signers are keys of signers
+pub malicious-few :
     (s : Coordinator) (flags : List Bool) → isWithin s ≡ true
     → numKeyIds (configOf (s .config)) (collect (flaggedIn flags) (slotsOf (s .config))) ≤ s .config .«num_keys»
 unfolding entries total
-marked-few s flags w =
+malicious-few s flags w =
     let g = s .config in
     let few = keys-few s (within s w) in
     let all = counted (g .signers) flags 0 (entries g)

@@ -35,10 +35,10 @@ use Rattle.signer_ids.specs.Flags.{isWaiting}
 use Rattle.signer_ids.proofs.Listing.{waiters-flagged}
 use Rattle.starts.specs.Starts.{requestTurn}
 use Rattle.starts.proofs.Refines.{request-refines}
-use Rattle.timeout_results.specs.Named.{waitersIn, flaggedSigners}
+use Rattle.timeouts.specs.Named.{waitersIn, flaggedSigners}
 use Rattle.timeouts.specs.NonceTimeout.{currentPlace, recordAsked}
 use Rattle.share_timeout.specs.Exclusion.{excludedIn, tooFewKeys}
-use Rattle.share_timeout.specs.ShareTimeout.{insufficientTurn, retryTurn, excludedTurn, newlyMarked, rowTurn, shareTimeoutTurn}
+use Rattle.share_timeout.specs.ShareTimeout.{insufficientTurn, retryTurn, excludedTurn, newMalicious, rowTurn, shareTimeoutTurn}
 use Rattle.share_timeout.proofs.Flags.{joined-flagged}
 use Rattle.share_timeout.proofs.Answering.{excluded-within}
 
@@ -51,18 +51,18 @@ unfolding excludedIn coordinatorOf standingOf roundOf
 excluded-viewed row s store =
     rw (joined-flagged (map isWaiting (row .slots)) (s .marks .malicious) (slotsOf (s .config)) (slots-rise 0 (idsOf (s .config))), waiters-flagged (row .slots) (slotsOf (s .config)))
 
--- what the definition does with a coordinator whose waiters are marked
+-- what the definition does with a coordinator whose waiters are malicious
 abbrev retries : ℕ → SignatureType → List ℕ → List ℕ → Defined → A.Outcome
 retries clock t root new c =
     let after = requestNonces clock t root c in
-    sendsNonceRequest t root after (A.marked new ∷ (A.requested (nonceRequestOf t root after) ∷ (A.retried ∷ [])))
+    sendsNonceRequest t root after (A.newlyMalicious new ∷ (A.requested (nonceRequestOf t root after) ∷ (A.retried ∷ [])))
 
 abbrev excludes : ℕ → SignatureType → List ℕ → List ℕ → Defined → A.Outcome
 excludes clock t root new c =
     let g = c .standing .config in
     let malicious = c .standing .malicious-signer-ids in
     cond (ltb (g .num-keys - numKeyIds g malicious) (g .threshold))
-    (A.outcome (A.sending A.result (encodeInsufficientSigners malicious)) (A.marked new ∷ []) (commissioned c))
+    (A.outcome (A.sending A.result (encodeInsufficientSigners malicious)) (A.newlyMalicious new ∷ []) (commissioned c))
     (retries clock t root new c)
 
 module _ (clock : ℕ) (t : SignatureType) (new : List ℕ) (s : Coordinator) (store : List ℕ) (b : s .commissioned ≡ true) (w : isWithin s ≡ true) where
@@ -75,7 +75,7 @@ module _ (clock : ℕ) (t : SignatureType) (new : List ℕ) (s : Coordinator) (s
   unfolding retryTurn requestTurn
   retry-refines =
       let sent = request-refines clock t (s .position .root) s store b w in
-      record { answer = sent .answer; events = ap (λ (es : List A.Event). A.marked new ∷ (es ++ (A.retried ∷ []))) (sent .events); after = sent .after }
+      record { answer = sent .answer; events = ap (λ (es : List A.Event). A.newlyMalicious new ∷ (es ++ (A.retried ∷ []))) (sent .events); after = sent .after }
 
   excluded-refines :
       Refines (excludedTurn clock t new s store) (excludes clock t (rootFor t (s .position .root)) new (coordinatorOf s store))
@@ -90,11 +90,11 @@ row-refines :
     (clock : ℕ) (t : SignatureType) (row : SignRoundInfo) (s : Coordinator) (store : List ℕ) → s .commissioned ≡ true → isWithin s ≡ true
     → s .position .state ≡ SigShareGather t
     → Refines (rowTurn clock t row s store)
-    (excludes clock t (coordinatorOf s store .position .root) (newlyMarked row s)
+    (excludes clock t (coordinatorOf s store .position .root) (newMalicious row s)
     (withMalicious (insertAll (waitersIn (s .config) row) (flaggedSigners (s .config) (s .marks .malicious))) (coordinatorOf s store)))
 unfolding rowTurn excludedIn
 row-refines clock t row s store b w gathers =
-    let new = newlyMarked row s in
+    let new = newMalicious row s in
     let after = withMalicious (insertAll (waitersIn (s .config) row) (flaggedSigners (s .config) (s .marks .malicious))) (coordinatorOf s store) in
     let root = rootFor t (s .position .root) in
     subst (λ (r : List ℕ). Refines (rowTurn clock t row s store) (excludes clock t r new after)) (sym (root-held clock t new s store b w gathers))
@@ -105,7 +105,7 @@ pub share-timeout-refines :
     (clock : ℕ) (t : SignatureType) (s : Coordinator) (store : List ℕ) → Shaped s → s .commissioned ≡ true → isWithin s ≡ true
     → s .position .state ≡ SigShareGather t
     → Refines (shareTimeoutTurn clock t s store) (shareTimeout clock t (coordinatorOf s store .position .root) (coordinatorOf s store))
-unfolding shareTimeoutTurn shareTimeout recordAsked currentPlace question12 unless newlyMarked find coordinatorOf roundOf rowOf standingOf
+unfolding shareTimeoutTurn shareTimeout recordAsked currentPlace question12 unless newMalicious find coordinatorOf roundOf rowOf standingOf
 share-timeout-refines clock t s store shaped b w gathers = by (ltb (currentPlace s store) (s .records .count)) refl
   where
     m : List ℕ

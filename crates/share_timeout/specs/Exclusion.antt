@@ -7,7 +7,7 @@ use Rattle.step_definition.specs.Configuration.{numKeyIds}
 use Rattle.state.specs.declared.fields.Coordinator.{Coordinator}
 use Rattle.state.specs.Setters.{setMarks}
 use Rattle.state.specs.View.{configOf}
-use Rattle.timeout_results.specs.Named.{flaggedSigners}
+use Rattle.timeouts.specs.Named.{flaggedSigners}
 
 -- a flag is set where it is in one of the two
 unfoldable pub joinedFlags : List Bool → List Bool → List Bool
@@ -15,7 +15,7 @@ joinedFlags [] ys = ys
 joinedFlags (x ∷ xs) [] = x ∷ xs
 joinedFlags (x ∷ xs) (y ∷ ys) = (x || y) ∷ joinedFlags xs ys
 
--- those who are waited for marked, beside those that were
+-- those who are waited for malicious (01: struck), beside those that were
 unfoldable pub excludedIn : List Bool → Coordinator → Coordinator
 excludedIn waits s = setMarks (record { ended = s .marks .ended; malicious = joinedFlags waits (s .marks .malicious) }) s
 

@@ -16,7 +16,7 @@ use Rattle.state.specs.View.{noRow}
 use Rattle.state.specs.Turns.{Turn, unless}
 use Rattle.starts.specs.Starts.{requestTurn}
 use Rattle.signer_ids.specs.Flags.{isWaiting}
-use Rattle.timeout_results.specs.Named.{waitersIn, flaggedSigners}
+use Rattle.timeouts.specs.Named.{waitersIn, flaggedSigners}
 use Rattle.timeouts.specs.NonceTimeout.{currentPlace, recordAsked}
 use Rattle.share_timeout.specs.Exclusion.{excludedIn, tooFewKeys}
 
@@ -25,12 +25,12 @@ pub record Late (s : Coordinator) (room : ℕ) : Type 0 where
   pub within : isWithin s ≡ true
   pub wide : answerLength ≤ room
 
--- "InsufficientSigners, state kept, strikes kept": who is named, and who was not marked before
+-- "InsufficientSigners, state kept, strikes kept": who is named, and who was not malicious before
 unfoldable pub insufficientTurn : List ℕ → List ℕ → Coordinator → List ℕ → Turn
 insufficientTurn named new s store =
     record {
       answer = A.sending A.result (encodeInsufficientSigners named);
-      events = A.marked new ∷ [];
+      events = A.newlyMalicious new ∷ [];
       after = s;
       store = store;
     }
@@ -41,25 +41,25 @@ retryTurn clock t new s store =
     let sent = requestTurn clock t (s .position .root) s store in
     record {
       answer = sent .answer;
-      events = A.marked new ∷ (sent .events ++ (A.retried ∷ []));
+      events = A.newlyMalicious new ∷ (sent .events ++ (A.retried ∷ []));
       after = sent .after;
       store = sent .store;
     }
 
--- "Then num_keys − struck keys < `threshold` is InsufficientSigners ..; equality retries", of a struct whose waiters are marked: all who
--- are marked count and are named, not the waiters alone
+-- "Then num_keys − struck keys < `threshold` is InsufficientSigners ..; equality retries", of a struct whose waiters are malicious: all who
+-- are malicious count and are named, not the waiters alone
 unfoldable pub excludedTurn : ℕ → SignatureType → List ℕ → Coordinator → List ℕ → Turn
 excludedTurn clock t new s store =
     cond (tooFewKeys (s .marks .malicious) s)
     (insufficientTurn (flaggedSigners (s .config) (s .marks .malicious)) new s store)
     (retryTurn clock t new s store)
 
--- the waiters of a record who were not marked before
-unfoldable pub newlyMarked : SignRoundInfo → Coordinator → List ℕ
-newlyMarked row s = without (waitersIn (s .config) row) (flaggedSigners (s .config) (s .marks .malicious))
+-- the waiters of a record who were not malicious before
+unfoldable pub newMalicious : SignRoundInfo → Coordinator → List ℕ
+newMalicious row s = without (waitersIn (s .config) row) (flaggedSigners (s .config) (s .marks .malicious))
 
 unfoldable pub rowTurn : ℕ → SignatureType → SignRoundInfo → Coordinator → List ℕ → Turn
-rowTurn clock t row s store = excludedTurn clock t (newlyMarked row s) (excludedIn (map isWaiting (row .slots)) s) store
+rowTurn clock t row s store = excludedTurn clock t (newMalicious row s) (excludedIn (map isWaiting (row .slots)) s) store
 
 -- 12, or "Share timeout strikes every waiter", those of the current message's record
 unfoldable pub shareTimeoutTurn : ℕ → SignatureType → Coordinator → List ℕ → Turn

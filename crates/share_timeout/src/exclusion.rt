@@ -1,4 +1,4 @@
-// The waiters marked, and the keys that are left then.
+// The waiters excluded, and the keys that are left then.
 ghost use mathlib.Core.Path.{_≡_};
 ghost use mathlib.Core.Bool.{true, _||_};
 ghost use Rattle.state.specs.Counts.{isWithin};
@@ -48,7 +48,7 @@ pub fn is_too_few(s: Coordinator, flags: [bool; SIGNER_LIMIT]) -> bool
     ensures { λ r. ⌜ r ≡ tooFewKeys flags s ⌝ }
 {
     let config = s.config;
-    let excluded = key_counts::counts::keys_of(config, flags);
-    let left = (config.num_keys as usize) - excluded;
+    let malicious_keys = key_counts::counts::keys_of(config, flags);
+    let left = (config.num_keys as usize) - malicious_keys;
     left < (config.threshold as usize)
 }

@@ -4,7 +4,7 @@ ghost use Prim.Native.Nat.{ℕ, _≤_};
 ghost use lib.ListN.{length};
 ghost use Rattle.layout.specs.Limits.{signerLimit, answerLength};
 ghost use Rattle.state.specs.Turns.{Did};
-ghost use Rattle.timeout_results.specs.Named.{flaggedSigners};
+ghost use Rattle.timeouts.specs.Named.{flaggedSigners};
 ghost use Rattle.share_timeout.specs.ShareTimeout.{Late, insufficientTurn, shareTimeoutTurn};
 use crate::exclusion;
 use framing::Written;
@@ -23,7 +23,7 @@ fn insufficient(s: Coordinator, out: &mut [u8], flags: [bool; SIGNER_LIMIT]) -> 
         → Did (insufficientTurn (flaggedSigners (s .config) flags) new s store) (now (out .entry)) d store (now (out .exit))) ⌝ }
 {
     let config = s.config;
-    let written = timeout_results::write_insufficient_signers(out, config, flags);
+    let written = timeouts::timeout_results::write_insufficient_signers(out, config, flags);
     match written {
         Written::Bytes(len) => answers::sending(s, Class::Result, len),
         // there is room, and the list is short
@@ -52,7 +52,7 @@ pub fn share_timeout(
     let t = exclusion::exclude(s, waits);
     let marks = t.marks;
     let malicious = marks.malicious;
-    // not the waiters alone: all who are marked are taken off, and named
+    // not the waiters alone: all who are malicious are taken off, and named
     if exclusion::is_too_few(t, malicious) {
         return insufficient(t, out, malicious);
     }

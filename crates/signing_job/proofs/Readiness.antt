@@ -11,7 +11,7 @@ use Rattle.state.specs.Counts.{rowWithin, isWithin}
 use Rattle.state.specs.View.{noRow}
 use Rattle.state.proofs.Arrays.{every-get}
 use Rattle.state.proofs.Within.{within, config-few, records-few, rows-within}
-use Rattle.signing_job.specs.SigningJob.{Ready}
+use Rattle.signing_job.specs.SigningJob.{JobReady}
 
 no-row : (n : ℕ) → rowWithin n noRow ≡ true
 unfolding rowWithin every
@@ -19,7 +19,7 @@ no-row zero = refl
 no-row (suc n) = refl
 
 pub ready : (s : Coordinator) (r store message room : ℕ) → isWithin s ≡ true → r < s .records .count → storeLength ≤ store → message ≤ messageLimit
-    → answerLength ≤ room → Ready s r store message room
+    → answerLength ≤ room → JobReady s r store message room
 ready s r store message room w low stored short wide =
     let in-limits = within s w in
     let few = records-few s in-limits in

@@ -21,11 +21,11 @@ use Rattle.state.specs.Slots.{collect}
 use Rattle.state.specs.View.{slotsOf, noRow}
 use Rattle.state.proofs.SignerSlots.{slots-live}
 use Rattle.signing_job.specs.Places.{jobPlaceIn}
-use Rattle.signing_job.specs.SigningJob.{Ready, jobBytes}
+use Rattle.signing_job.specs.SigningJob.{JobReady, jobBytes}
 use Rattle.signing_job.proofs.Joined.{keys-joined, nonces-joined, shares-joined}
 use Rattle.signing_job.proofs.Holding.{places-hold}
 
-module _ (s : Coordinator) (store : List ℕ) (r : ℕ) (m : List ℕ) (t : SignatureType) (room : ℕ) (ok : Ready s r (length store) (length m) room)
+module _ (s : Coordinator) (store : List ℕ) (r : ℕ) (m : List ℕ) (t : SignatureType) (room : ℕ) (ok : JobReady s r (length store) (length m) room)
     (ps : JobPlaces) (few : ps .count ≤ signerLimit)
     (walked : signersIn ps ≡ collect (jobPlaceIn r (getD (s .records .rows) r noRow) (s .shares)) (slotsOf (s .config))) where
   abbrev row : SignRoundInfo

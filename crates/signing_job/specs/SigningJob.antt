@@ -52,7 +52,7 @@ unfoldable pub sharesAreHeld : List ResponseSlot → List ShareSlot → SignerSl
 sharesAreHeld slots ss e = cond (getD slots (e .slot) noSlot .held) (getD ss (e .slot) noShares .held) true
 
 -- what question 4 and the questions after it have found: counts within the limits, a record that is there, buffers that are long enough
-pub record Ready (s : Coordinator) (r store message room : ℕ) : Type 0 where
+pub record JobReady (s : Coordinator) (r store message room : ℕ) : Type 0 where
   pub signers : s .config .count ≤ signerLimit
   pub row : r < recordLimit
   pub within : rowWithin (s .config .count) (getD (s .records .rows) r noRow) ≡ true

@@ -2,7 +2,7 @@
 // it, and whether a record has a waiter left.
 ghost use lib.ListN.{length};
 ghost use Rattle.framing.specs.Writing.{Wrote, written};
-ghost use Rattle.signing_job.specs.SigningJob.{Ready, jobBytes};
+ghost use Rattle.signing_job.specs.SigningJob.{JobReady, jobBytes};
 use body::RequestHead;
 use framing::Written;
 use layout::SignatureType;
@@ -21,7 +21,7 @@ pub fn write_signing_job(
     message: &[u8],
     signature_type: SignatureType,
 ) -> Written
-    requires { ⌜ Ready s r (length (now store)) (length (now message)) (length (now out)) ⌝ }
+    requires { ⌜ JobReady s r (length (now store)) (length (now message)) (length (now out)) ⌝ }
     ensures { λ w. ⌜ Wrote (written (jobBytes s (now (store .entry)) r (now (message .entry)) «signature_type»))
         (now (out .entry)) w (now (out .exit)) ⌝ }
 {

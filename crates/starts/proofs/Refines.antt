@@ -24,7 +24,7 @@ use Rattle.state.specs.declared.fields.Coordinator.{Coordinator}
 use Rattle.state.specs.Counts.{isWithin, recordsWithin}
 use Rattle.state.specs.View.{view, coordinatorOf, standingOf, roundOf, rowsFrom, positionOf, rootBytes, reading}
 use Rattle.state.specs.Turns.{Refines}
-use Rattle.round.proofs.Viewed.{message-read}
+use Rattle.state.proofs.Viewed.{message-read}
 use Rattle.state.proofs.Within.{within, is-within}
 use Rattle.state.proofs.Moves.{move-viewed}
 use Rattle.state.proofs.Refines.{on-held, view-held, callOf, ask-refines, error-refines}

@@ -20,7 +20,7 @@ use Rattle.state.specs.declared.fields.Reading.the-variants.{At}
 use Rattle.state.specs.declared.fields.Coordinator.{Coordinator}
 use Rattle.state.specs.Setters.{setIds, setMessage, setPosition, setRecords, setClocks}
 use Rattle.state.specs.Turns.{Turn, errorTurn, asked, unless}
-use Rattle.round.specs.Round.{messageWith}
+use Rattle.state.specs.Replaced.{messageWith}
 use Rattle.starts.specs.declared.naming.SignId.{SignId}
 use Rattle.starts.specs.declared.naming.SignId.the-variants.{Next, Given}
 use Rattle.starts.specs.declared.naming.Start.{Start}

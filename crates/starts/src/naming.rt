@@ -32,7 +32,7 @@ pub fn named(s: Coordinator, message: &[u8], id: SignId) -> Coordinator
     ensures { λ r. ⌜ r ≡ startNamed (now (message .entry)) id s ⌝ }
 {
     let old = s.message;
-    let stored = round::with_message(old, message);
+    let stored = state::replaced::with_message(old, message);
     let last = s.ids;
     let sign_id = sign_id_of(id, last.sign_id);
     let ids = Ids {

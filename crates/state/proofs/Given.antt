@@ -12,6 +12,9 @@ use mathlib.Core.List.{List}
 use lib.ListN.{length, length-map}
 use mir.Val.{Val}
 use denote.Laws.{Is}
+use Rattle.validity.specs.declared.keys.KeyIds.{KeyIds}
+use Rattle.validity.proofs.keys.KeyIds as KeyIds-row
+use Rattle.state.specs.declared.fields.SignerEntry.{SignerEntry}
 use Rattle.state.specs.declared.fields.Config.{Config}
 use Rattle.state.specs.declared.fields.SignRoundInfo.{SignRoundInfo}
 use Rattle.state.specs.declared.fields.Records.{Records}
@@ -21,6 +24,7 @@ use Rattle.state.specs.declared.fields.Message.{Message}
 use Rattle.state.specs.declared.fields.Position.{Position}
 use Rattle.state.specs.declared.fields.Coordinator.{Coordinator}
 use Rattle.state.proofs.fields.Coordinator as Coordinator-row
+use Rattle.state.proofs.fields.SignerEntry as SignerEntry-row
 use Rattle.state.proofs.fields.Config as Config-row
 use Rattle.state.proofs.fields.SignRoundInfo as SignRoundInfo-row
 use Rattle.state.proofs.fields.Records as Records-row
@@ -28,6 +32,12 @@ use Rattle.state.proofs.fields.ShareSlot as ShareSlot-row
 use Rattle.state.proofs.fields.Shares as Shares-row
 use Rattle.state.proofs.fields.Message as Message-row
 use Rattle.state.proofs.fields.Position as Position-row
+
+pub list-16 : (k : KeyIds) (vs : List Val) → Is KeyIds-row.the-row k vs → length (k .ids) ≡ 16
+list-16 k vs g = rw length-map at (g .1 .1 .0 .1 .0 .1)
+
+pub entry-16 : (e : SignerEntry) (vs : List Val) → Is SignerEntry-row.the-row e vs → length (e .keys .ids) ≡ 16
+entry-16 e vs g = list-16 (e .keys) _ (g .1 .1 .1 .1 .0)
 
 pub signers-10 : (g : Config) (vs : List Val) → Is Config-row.the-row g vs → length (g .signers) ≡ 10
 signers-10 x vs g = rw length-map at (g .1 .1 .1 .1 .1 .1 .1 .1 .0 .1 .0 .1)

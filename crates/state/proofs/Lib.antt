@@ -2,6 +2,7 @@
 -- Assumes nothing.
 pub mod Given
 pub mod Walks
+pub mod KeyLists
 pub mod Turns
 pub mod Arrays
 pub mod SignerSlots
@@ -9,6 +10,7 @@ pub mod Collect
 pub mod Within
 pub mod LiveCounts
 pub mod Store
+pub mod Viewed
 pub mod Shape
 pub mod Refines
 pub mod Limits

@@ -4,5 +4,6 @@ pub mod Counts
 pub mod View
 pub mod LiveCounts
 pub mod Setters
+pub mod Replaced
 pub mod Turns
 pub mod Rounds

@@ -73,7 +73,7 @@ pub struct Shares {
     pub slots: [ShareSlot; SIGNER_LIMIT],
 }
 
-// Which signers ended key generation, and which are struck.
+// Which signers ended key generation, and which are malicious (01: struck).
 pub struct Marks {
     pub ended: [bool; SIGNER_LIMIT],
     pub malicious: [bool; SIGNER_LIMIT],

@@ -3,3 +3,4 @@ pub mod answers;
 pub mod counts;
 pub mod fields;
 pub mod places;
+pub mod replaced;

@@ -198,7 +198,7 @@ records =
     ∷ field "count of records" 2895 (eight 53)
     ∷ []
 
--- ten signers' shares of 25 bytes; then what is marked, the clocks, the keys, the job
+-- ten signers' shares of 25 bytes; then the marks, the clocks, the keys, the job
 abbrev tail : Flags → List Field
 tail f =
     field "shares of signer 0, held" 2903 (1 ∷ [])

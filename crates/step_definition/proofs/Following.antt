@@ -31,7 +31,7 @@ use Rattle.step_definition.specs.NonceGather.{NonceVerdict, wrongId, ign
 use Rattle.step_definition.specs.Step.{messageIn, onMessage, onEntry, onPacket, onResults, own, onHeld, stepOf}
 use Rattle.step_definition.proofs.Cases.{cond-case, cond-both, given-both}
 use Rattle.step_definition.proofs.Entries.{Signed, signed, GoodPages, logged-good, pagesOf, has-page, entries-for, entered-record, keys-entered}
-use Rattle.step_definition.proofs.Gathering.{Gathering, gathering, fromBefore, freshly-gathers}
+use Rattle.step_definition.proofs.Gathering.{GatheringCoordinator, gathering, fromBefore, freshly-gathers}
 use Rattle.step_definition.proofs.Leaves.{opening}
 
 -- the four things with other held keys
@@ -40,7 +40,7 @@ holding keys s =
     record { config = s .config; dkg-end-messages = s .dkg-end-messages; keys = keys; malicious-signer-ids = s .malicious-signer-ids }
 
 -- the round that o opened, as it gathers
-abbrev pub round : Opened → List SignRoundInfo → Keys → Gathering
+abbrev pub round : Opened → List SignRoundInfo → Keys → GatheringCoordinator
 round o rs keys =
     let r = o .request in
     record {
@@ -310,12 +310,13 @@ module _ (o : Opened) (ss : List SignerShares) (start : Option ℕ) where
         follows-request (other p) e = follows p e
 
   -- what is held has its records and keys in the log
-  abbrev pub Recorded : Held → ResponseLog → Type 0
-  Recorded h l = (rs : List SignRoundInfo) × (keys : Keys) × (h ≡ commissioned (gathered rs keys)) × (l ≡ log rs keys)
+  abbrev pub RecordsFollow : Held → ResponseLog → Type 0
+  RecordsFollow h l = (rs : List SignRoundInfo) × (keys : Keys) × (h ≡ commissioned (gathered rs keys)) × (l ≡ log rs keys)
 
   -- over a list of calls: the first share request is the one that the log names; while there is none, the records are logged
   abbrev pub Logs : List Call → Held → ResponseLog → Type 0
-  Logs ks h l = (firstShareRequest ks h ≡ firstNamed o l ks) × (firstShareRequest ks h ≡ none → Recorded (final ks h) (logAfter o l ks))
+  Logs ks h l =
+      (firstShareRequest ks h ≡ firstNamed o l ks) × (firstShareRequest ks h ≡ none → RecordsFollow (final ks h) (logAfter o l ks))
 
   not-later : (x : Option Place) → orLater none x ≡ none → x ≡ none
   unfolding orLater
@@ -327,7 +328,7 @@ module _ (o : Opened) (ss : List SignerShares) (start : Option ℕ) where
       {s : Outcome} {n : Option SignatureShareRequest} {l : ResponseLog} (ks : List Call) → Follows s n l → GoodPages o (l .pages)
       → Plain ks (s .after)
       → ((rs : List SignRoundInfo) (keys : Keys) → GoodPages o (pagesOf rs) → Plain ks (commissioned (gathered rs keys)) → Logs ks (commissioned (gathered rs keys)) (log rs keys))
-      → (orLater (shareRequestIn (s .events)) (firstShareRequest ks (s .after)) ≡ orLater n (firstNamed o l ks)) × (orLater (shareRequestIn (s .events)) (firstShareRequest ks (s .after)) ≡ none → Recorded (final ks (s .after)) (logAfter o l ks))
+      → (orLater (shareRequestIn (s .events)) (firstShareRequest ks (s .after)) ≡ orLater n (firstNamed o l ks)) × (orLater (shareRequestIn (s .events)) (firstShareRequest ks (s .after)) ≡ none → RecordsFollow (final ks (s .after)) (logAfter o l ks))
   unfolding orLater
   joins ks (sends e) good p ih = (rw e, λ z. absurd (Option·none-ne-some _ (sym (rw e at z))))
   joins ks (gathers {rs = rs} {keys = keys} e) good p ih =

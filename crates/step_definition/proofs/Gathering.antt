@@ -13,7 +13,7 @@ use Rattle.state_table.specs.States.{position}
 use Rattle.step_definition.specs.Coordinator.{Standing, Coordinator, SignRoundInfo, SignerShares}
 use Rattle.step_definition.proofs.Leaves.{Fresh}
 
-pub record Gathering : Type 0 where
+pub record GatheringCoordinator : Type 0 where
   pub standing : Standing
   pub ids : Ids
   pub signature-type : SignatureType
@@ -23,7 +23,7 @@ pub record Gathering : Type 0 where
   pub nonce-start : Option ℕ
 
 -- with the shares and the share clock that stayed
-abbrev pub gathering : Gathering → List SignerShares → Option ℕ → Coordinator
+abbrev pub gathering : GatheringCoordinator → List SignerShares → Option ℕ → Coordinator
 gathering w ss start =
     record {
       standing = w .standing;
@@ -40,7 +40,7 @@ gathering w ss start =
     }
 
 -- the one that the nonce request r opens a round with
-abbrev pub freshly : ℕ → NonceRequest → Standing → Gathering
+abbrev pub freshly : ℕ → NonceRequest → Standing → GatheringCoordinator
 freshly now r s =
     record {
       standing = s;
@@ -53,7 +53,7 @@ freshly now r s =
     }
 
 -- what stays of the coordinator before
-abbrev pub fromBefore : Gathering → Coordinator → Coordinator
+abbrev pub fromBefore : GatheringCoordinator → Coordinator → Coordinator
 fromBefore w c = gathering w (c .round .signature-shares) (c .round .clocks .sign-start)
 
 pub freshly-gathers : {now : ℕ} {r : NonceRequest} {c : Coordinator} → Fresh now r c → c ≡ fromBefore (freshly now r (c .standing)) c

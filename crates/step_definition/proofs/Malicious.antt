@@ -10,25 +10,25 @@ use Rattle.layout.specs.declared.SignatureType.{SignatureType}
 use Rattle.state_table.specs.declared.State.the-variants.{SigShareGather}
 use Rattle.validity.specs.Keys.{member}
 use Rattle.step_definition.specs.Coordinator.{Coordinator, Held, uncommissioned, commissioned, waitersOf, currentRecord}
-use Rattle.step_definition.specs.Calls.{Call, markedIn}
+use Rattle.step_definition.specs.Calls.{Call, newlyMaliciousIn}
 use Rattle.step_definition.specs.Questions.{fires}
 use Rattle.step_definition.specs.Run.{maliciousIn}
 use Rattle.step_definition.specs.Silence.{isCommission}
 use Rattle.step_definition.specs.Step.{step}
 use Rattle.step_definition.proofs.Ascending.{member-insertAll}
-use Rattle.step_definition.proofs.Outcomes.{excluded, Marking, kept, added, step-told}
+use Rattle.step_definition.proofs.Outcomes.{maliciousAfter, MaliciousChange, kept, added, step-told}
 
 -- what became of the list, where the call was no commissioning
-marking : (k : Call) (h : Held) → isCommission (k .request) ≡ false → Marking (k .clock) h (step k h)
-marking k h nc = rw nc at (step-told k h .marking)
+malicious-change : (k : Call) (h : Held) → isCommission (k .request) ≡ false → MaliciousChange (k .clock) h (step k h)
+malicious-change k h nc = rw nc at (step-told k h .malicious-change)
 
 -- without a share timeout, and without commissioning, the list stays as it is
 pub malicious-kept :
-    (k : Call) (h : Held) → isCommission (k .request) ≡ false → markedIn (step k h .events) ≡ none
+    (k : Call) (h : Held) → isCommission (k .request) ≡ false → newlyMaliciousIn (step k h .events) ≡ none
     → maliciousIn (step k h .after) ≡ maliciousIn h
-malicious-kept k h nc e = from (marking k h nc)
+malicious-kept k h nc e = from (malicious-change k h nc)
   where
-    from : Marking (k .clock) h (step k h) → maliciousIn (step k h .after) ≡ maliciousIn h
+    from : MaliciousChange (k .clock) h (step k h) → maliciousIn (step k h .after) ≡ maliciousIn h
     from (kept m s) = s
     from (added c ids held f m a) = cc
 
@@ -39,12 +39,12 @@ pub record ShareTimeout (k : Call) (h : Held) : Type 0 where
   pub type : SignatureType
   pub gathers : coordinator .position .state ≡ SigShareGather type
   pub elapsed : fires (k .clock) (coordinator .round .clocks .sign-start) (coordinator .standing .config .timeouts .sign) ≡ true
-  pub adds : maliciousIn (step k h .after) ≡ excluded coordinator
+  pub adds : maliciousIn (step k h .after) ≡ maliciousAfter coordinator
 
-pub marked-by-timeout : (k : Call) (h : Held) (ids : List ℕ) → markedIn (step k h .events) ≡ some ids → ShareTimeout k h
-marked-by-timeout k h ids e = from (isCommission (k .request)) (step-told k h .marking)
+pub malicious-by-timeout : (k : Call) (h : Held) (ids : List ℕ) → newlyMaliciousIn (step k h .events) ≡ some ids → ShareTimeout k h
+malicious-by-timeout k h ids e = from (isCommission (k .request)) (step-told k h .malicious-change)
   where
-    from : (b : Bool) → Marking (k .clock) (cond b uncommissioned h) (step k h) → ShareTimeout k h
+    from : (b : Bool) → MaliciousChange (k .clock) (cond b uncommissioned h) (step k h) → ShareTimeout k h
     from b (kept m s) = let z : _≡_ {A = ℕ} 0 1 = cc in absurd (omega arith)
     from true (added c ids held f m a) = let z : _≡_ {A = ℕ} 0 1 = cc in absurd (omega arith)
     from false (added c ids held f m a) =
@@ -55,8 +55,8 @@ pub malicious-grows :
     (k : Call) (h : Held) (id : ℕ) → isCommission (k .request) ≡ false → member id (maliciousIn h) ≡ true
     → member id (maliciousIn (step k h .after)) ≡ true
 unfolding maliciousIn
-malicious-grows k h id nc m = from (marking k h nc)
+malicious-grows k h id nc m = from (malicious-change k h nc)
   where
-    from : Marking (k .clock) h (step k h) → member id (maliciousIn (step k h .after)) ≡ true
+    from : MaliciousChange (k .clock) h (step k h) → member id (maliciousIn (step k h .after)) ≡ true
     from (kept n s) = rw s m
     from (added c ids held f n a) = rw (a, member-insertAll, rw held at m) (or-true (member id (waitersOf (currentRecord c))))

@@ -17,7 +17,7 @@ use Rattle.step_definition.specs.ResponseLog.{Opened, Page, ResponseLog,
 use Rattle.step_definition.specs.Run.{final}
 use Rattle.step_definition.proofs.Cases.{cond-case}
 use Rattle.step_definition.proofs.Entries.{GoodPages, GoodEntry, nothingEntered, isEntered, entry-good, enter-good, entries-good, logged-good, log-good}
-use Rattle.step_definition.proofs.Following.{gathered, Recorded, from-opening}
+use Rattle.step_definition.proofs.Following.{gathered, RecordsFollow, from-opening}
 
 -- the call and its share request are those that the log names
 pub next-share-request :
@@ -37,7 +37,8 @@ pub log-is-records :
     → firstShareRequest ks (commissioned c) ≡ none
     → RecordsLogged (final ks (commissioned c)) (logAfter (openedBy k r c) (empty (openedBy k r c)) ks)
 log-is-records k h r c o ks p e =
-    let w : Recorded (openedBy k r c) (c .round .signature-shares) (c .round .clocks .sign-start) _ _ = from-opening k h r c o ks p .1 e in
+    let w : RecordsFollow (openedBy k r c) (c .round .signature-shares) (c .round .clocks .sign-start) _ _ =
+    from-opening k h r c o ks p .1 e in
     record {
       coordinator = gathered (openedBy k r c) (c .round .signature-shares) (c .round .clocks .sign-start) (w .0) (w .1);
       holds = w .2;

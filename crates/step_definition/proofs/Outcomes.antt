@@ -18,7 +18,7 @@ use Rattle.step_definition.specs.Ids.{insertAll}
 use Rattle.step_definition.specs.Coordinator.{Coordinator, Held, uncommissioned, miscounted, commissioned, waitersOf, currentRecord}
 use Rattle.step_definition.specs.Calls.{Start, Entry, process, processMessage, Request, commission, other, Call}
 use Rattle.step_definition.specs.Calls.{Operation, setKey, takeResults, canMove, startSigning, receive, processTimeout, aggregated, reset}
-use Rattle.step_definition.specs.Calls.{Class, error, Answer, Event, marked, markedIn, Outcome, outcome, refusing, quiet}
+use Rattle.step_definition.specs.Calls.{Class, error, Answer, Event, newlyMalicious, newlyMaliciousIn, Outcome, outcome, refusing, quiet}
 use Rattle.step_definition.specs.Effects.{rootFor, recording, freeing}
 use Rattle.step_definition.specs.Phases.{Phase, idling, gatheringNonces, gatheringShares, resting, phaseOf}
 use Rattle.step_definition.specs.Phases.{Content, aNonceRequest, aNonceResponse, aShareResponse, aDkgBegin, unheard, contentOf}
@@ -44,45 +44,45 @@ pub record Fires (now : ℕ) (c : Coordinator) : Type 0 where
   pub elapsed : fires now (c .round .clocks .sign-start) (c .standing .config .timeouts .sign) ≡ true
 
 -- the malicious list with the waiters added
-abbrev pub excluded : Coordinator → List ℕ
-excluded c = insertAll (waitersOf (currentRecord c)) (c .standing .malicious-signer-ids)
+abbrev pub maliciousAfter : Coordinator → List ℕ
+maliciousAfter c = insertAll (waitersOf (currentRecord c)) (c .standing .malicious-signer-ids)
 
 -- what a step from h does to the malicious list: nothing, or a share timeout adds the waiters
-pub data Marking (now : ℕ) (h : Held) (o : Outcome) : Type 0 where
-  kept : markedIn (o .events) ≡ none → maliciousIn (o .after) ≡ maliciousIn h → Marking now h o
+pub data MaliciousChange (now : ℕ) (h : Held) (o : Outcome) : Type 0 where
+  kept : newlyMaliciousIn (o .events) ≡ none → maliciousIn (o .after) ≡ maliciousIn h → MaliciousChange now h o
   added :
-      (c : Coordinator) (ids : List ℕ) → h ≡ commissioned c → Fires now c → markedIn (o .events) ≡ some ids
-      → maliciousIn (o .after) ≡ excluded c → Marking now h o
+      (c : Coordinator) (ids : List ℕ) → h ≡ commissioned c → Fires now c → newlyMaliciousIn (o .events) ≡ some ids
+      → maliciousIn (o .after) ≡ maliciousAfter c → MaliciousChange now h o
 
 -- an outcome of a step from h: a refusal with the number n leaves `left n`, and no byte
 pub record Told (now : ℕ) (left : ℕ → Held) (h : Held) (o : Outcome) : Type 0 where
   pub refusal : (n : ℕ) → o .answer .number ≡ suc n → (o .after ≡ left (suc n)) × (o .answer .bytes ≡ [])
-  pub marking : Marking now h o
+  pub malicious-change : MaliciousChange now h o
 
 -- The three kinds of outcome, and each kind of test that stands before outcomes.
 module _ {now : ℕ} {left : ℕ → Held} where
   says :
-      {h after : Held} {a : Answer} {es : List Event} → a .number ≡ 0 → markedIn es ≡ none → maliciousIn after ≡ maliciousIn h
+      {h after : Held} {a : Answer} {es : List Event} → a .number ≡ 0 → newlyMaliciousIn es ≡ none → maliciousIn after ≡ maliciousIn h
       → Told now left h (outcome a es after)
-  says z m k = record { refusal = λ n e. absurd (omega arith); marking = kept m k }
+  says z m k = record { refusal = λ n e. absurd (omega arith); malicious-change = kept m k }
 
   refuses :
-      {h after : Held} {k : Class} {m : ℕ} {vs : List ℕ} {es : List Event} → after ≡ left m → markedIn es ≡ none
+      {h after : Held} {k : Class} {m : ℕ} {vs : List ℕ} {es : List Event} → after ≡ left m → newlyMaliciousIn es ≡ none
       → maliciousIn after ≡ maliciousIn h → Told now left h (outcome (refusing k m vs) es after)
-  refuses {after = after} x m k = record { refusal = λ n e. (subst (λ (j : ℕ). after ≡ left j) e x, refl); marking = kept m k }
+  refuses {after = after} x m k = record { refusal = λ n e. (subst (λ (j : ℕ). after ≡ left j) e x, refl); malicious-change = kept m k }
 
-  marks :
+  excludes :
       {c : Coordinator} {after : Held} {a : Answer} {ids : List ℕ} {es : List Event} → a .number ≡ 0 → Fires now c
-      → maliciousIn after ≡ excluded c → Told now left (commissioned c) (outcome a (marked ids ∷ es) after)
+      → maliciousIn after ≡ maliciousAfter c → Told now left (commissioned c) (outcome a (newlyMalicious ids ∷ es) after)
   unfolding first
-  marks {c = c} {ids = ids} z f k = record { refusal = λ n e. absurd (omega arith); marking = added c ids refl f refl k }
+  excludes {c = c} {ids = ids} z f k = record { refusal = λ n e. absurd (omega arith); malicious-change = added c ids refl f refl k }
 
   branch :
       {h : Held} {t : Bool} {a b : Outcome} → (t ≡ true → Told now left h a) → (t ≡ false → Told now left h b)
       → Told now left h (cond t a b)
   branch {h = h} {t = t} = cond-case (Told now left h) t
 
-ruleset told = (says, refuses, marks, branch)
+ruleset told = (says, refuses, excludes, branch)
 
 -- Timeouts, and what follows where none fires.
 module _ (now : ℕ) (left : ℕ → Held) (c : Coordinator) (x : commissioned c ≡ left 12) where

@@ -1,4 +1,4 @@
--- Nobody who answered is marked malicious: from a commissioning or an opening nonce request on, over every list of calls, a share timeout
+-- Nobody who answered becomes malicious: from a commissioning or an opening nonce request on, over every list of calls, a share timeout
 -- adds exactly the responders of the last share request from whom no share packet with its dkg and sign id has come since (unless a start
 -- was refused with 11 since that request).
 -- Assumes nothing.
@@ -10,7 +10,7 @@ use Rattle.layout.specs.Messages.{NonceRequest}
 use Rattle.step_definition.specs.Ids.{insertAll, without}
 use Rattle.step_definition.specs.Configuration.{Config}
 use Rattle.step_definition.specs.Coordinator.{Coordinator, Held, uncommissioned, miscounted, commissioned}
-use Rattle.step_definition.specs.Calls.{Request, Call, commission, markedIn}
+use Rattle.step_definition.specs.Calls.{Request, Call, commission, newlyMaliciousIn}
 use Rattle.step_definition.specs.Demand3.{Opens}
 use Rattle.step_definition.specs.Phases.{Phase}
 use Rattle.step_definition.specs.Run.{maliciousIn, final}
@@ -56,8 +56,8 @@ adds (watching r silent) (commissioned c) new after i s =
     rw (← subst (λ (p : Phase). Knows (watching r silent) p c) (s .1) i .0) (s .2, s .3)
 
 pub only-the-silent :
-    (h : Held) → Begins h → (ks : List Call) (k : Call) (ids : List ℕ) → markedIn (step k (final ks h) .events) ≡ some ids
+    (h : Held) → Begins h → (ks : List Call) (k : Call) (ids : List ℕ) → newlyMaliciousIn (step k (final ks h) .events) ≡ some ids
     → Adds (watched ks h unasked) ids (maliciousIn (step k (final ks h) .after)) (maliciousIn (final ks h))
 only-the-silent h b ks k ids e =
     adds (watched ks h unasked) (final ks h) ids (step k (final ks h) .after) (watched-known ks h unasked (begins-known h b))
-    (step-good k (final ks h) .marks ids e)
+    (step-good k (final ks h) .excludes ids e)

@@ -13,7 +13,7 @@ use Rattle.layout.specs.Messages.{NonceRequest, NonceResponse, SignatureShareRe
 use Rattle.step_definition.specs.Lists.{isSome, given, first}
 use Rattle.step_definition.specs.Ids.{remove}
 use Rattle.step_definition.specs.Coordinator.{Coordinator, commissioned, addResponse, waitersOf, currentRecord}
-use Rattle.step_definition.specs.Calls.{Start, Answer, Event, recorded, sharesTaken, marked, requested, retried, jobWritten, markedIn, Outcome, outcome, failing, quiet}
+use Rattle.step_definition.specs.Calls.{Start, Answer, Event, recorded, sharesTaken, newlyMalicious, requested, retried, jobWritten, newlyMaliciousIn, Outcome, outcome, failing, quiet}
 use Rattle.step_definition.specs.Effects.{recording, freeing}
 use Rattle.step_definition.specs.Phases.{Phase, idling, gatheringNonces, gatheringShares, resting, phaseOf}
 use Rattle.step_definition.specs.Phases.{Content, aNonceRequest, aNonceResponse, aShareResponse, aDkgBegin, unheard, shareResponseIn}
@@ -25,7 +25,7 @@ use Rattle.step_definition.specs.NonceGather.{NonceVerdict, RecordVerdic
 use Rattle.step_definition.specs.SigShareGather.{ShareVerdict, TakeVerdict, alreadyHeld, others, last, takeVerdict, onTake, onShares}
 use Rattle.step_definition.specs.Step.{messageIn}
 use Rattle.step_definition.proofs.Cases.{cond-case}
-use Rattle.step_definition.proofs.Outcomes.{excluded}
+use Rattle.step_definition.proofs.Outcomes.{maliciousAfter}
 use Rattle.step_definition.proofs.Verdicts.{TimeoutCase, onTime, noncesLate, sharesLate}
 use Rattle.step_definition.proofs.Verdicts.{NonceCase, gets16, gets17, gets18, ignores, gets19, isNew, nonce-case}
 use Rattle.step_definition.proofs.Verdicts.{answers, ShareCase, notAwaited, otherDkg, otherSign, gets20, gets21, gets22, notEnded, isGood, share-case}
@@ -49,9 +49,9 @@ module _ (c : Coordinator) (heard : Option SignatureShareResponse) (start : Bool
 
   -- a new round is begun: any watch fits
   anew :
-      {n : Answer} {es : List Event} {d : Coordinator} → markedIn es ≡ none → ((w : Watch) → Known w (commissioned d))
+      {n : Answer} {es : List Event} {d : Coordinator} → newlyMaliciousIn es ≡ none → ((w : Watch) → Known w (commissioned d))
       → Fine (outcome n es (commissioned d))
-  anew m f = record { opens = λ r e. f _; keeps = λ w i. f _; marks = λ ids e. absurd (Option·none-ne-some ids (sym m ∙ e)) }
+  anew m f = record { opens = λ r e. f _; keeps = λ w i. f _; excludes = λ ids e. absurd (Option·none-ne-some ids (sym m ∙ e)) }
 
   refused11 :
       {d : Coordinator}
@@ -75,21 +75,21 @@ module _ (c : Coordinator) (heard : Option SignatureShareResponse) (start : Bool
   -- a share timeout: too few keys are left, or the round is begun again
   insufficient :
       {t : SignatureType} {n : Answer} {d : Coordinator} → phaseOf (c .position .state) ≡ gatheringShares t
-      → d .standing .malicious-signer-ids ≡ excluded c → Moves d → Fine (outcome n (marked (silent c) ∷ []) (commissioned d))
+      → d .standing .malicious-signer-ids ≡ maliciousAfter c → Moves d → Fine (outcome n (newlyMalicious (silent c) ∷ []) (commissioned d))
   unfolding first maliciousIn
   insufficient {t} {n} {d} p m moves =
       record {
         opens = λ r e. absurd (Option·none-ne-some r e);
         keeps = λ w i. unrequested (start && eqb (n .number) 11) (listening w heard) (commissioned d) (moves w i);
-        marks = λ ids e. (t, p, m, cc);
+        excludes = λ ids e. (t, p, m, cc);
       }
 
   again :
       {t : SignatureType} {n : Answer} {r : NonceRequest} {d : Coordinator} → phaseOf (c .position .state) ≡ gatheringShares t
-      → d .standing .malicious-signer-ids ≡ excluded c → ((w : Watch) → Known w (commissioned d))
-      → Fine (outcome n (marked (silent c) ∷ (requested r ∷ (retried ∷ []))) (commissioned d))
+      → d .standing .malicious-signer-ids ≡ maliciousAfter c → ((w : Watch) → Known w (commissioned d))
+      → Fine (outcome n (newlyMalicious (silent c) ∷ (requested r ∷ (retried ∷ []))) (commissioned d))
   unfolding first maliciousIn
-  again {t} p m f = record { opens = λ r e. f _; keeps = λ w i. f _; marks = λ ids e. (t, p, m, cc) }
+  again {t} p m f = record { opens = λ r e. f _; keeps = λ w i. f _; excludes = λ ids e. (t, p, m, cc) }
 
   share-timeout-good :
       (now : ℕ) (t : SignatureType) → phaseOf (c .position .state) ≡ gatheringShares t → Moves c

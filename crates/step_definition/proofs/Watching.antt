@@ -13,11 +13,11 @@ use Rattle.layout.specs.Messages.{NonceRequest, SignatureShareResponse}
 use Rattle.step_definition.specs.Lists.{first}
 use Rattle.step_definition.specs.Ids.{remove, without}
 use Rattle.step_definition.specs.Coordinator.{Coordinator, SignRoundInfo, Held, uncommissioned, miscounted, commissioned, waitersOf, currentRecord}
-use Rattle.step_definition.specs.Calls.{Answer, Event, nonceRequestIn, shareRequestIn, markedIn, Outcome, outcome}
+use Rattle.step_definition.specs.Calls.{Answer, Event, nonceRequestIn, shareRequestIn, newlyMaliciousIn, Outcome, outcome}
 use Rattle.step_definition.specs.Phases.{Phase, idling, gatheringNonces, gatheringShares, resting, phaseOf}
 use Rattle.step_definition.specs.Run.{maliciousIn}
 use Rattle.step_definition.specs.Silence.{Watch, unasked, broken, watching, watchAfter, listening, listen}
-use Rattle.step_definition.proofs.Outcomes.{excluded}
+use Rattle.step_definition.proofs.Outcomes.{maliciousAfter}
 use Rattle.step_definition.proofs.Verdicts.{answers}
 use Rattle.step_definition.proofs.Waiters.{Awaited}
 
@@ -53,7 +53,7 @@ TimedOut miscounted new after = ⊥
 TimedOut (commissioned c) new after =
     (t : SignatureType)
     × (phaseOf (c .position .state) ≡ gatheringShares t)
-    × (maliciousIn after ≡ excluded c)
+    × (maliciousIn after ≡ maliciousAfter c)
     × (new ≡ silent c)
 
 -- what is shown of each call's outcome on h, by the share packet that is heard and by whether the call is a start
@@ -62,7 +62,7 @@ pub record Good (h : Held) (heard : Option SignatureShareResponse) (start : Bool
   pub keeps :
       (w : Watch) → Known w h
       → Known (watchAfter (shareRequestIn (o .events)) (start && eqb (o .answer .number) 11) (listening w heard)) (o .after)
-  pub marks : (ids : List ℕ) → markedIn (o .events) ≡ some ids → TimedOut h ids (o .after)
+  pub excludes : (ids : List ℕ) → newlyMaliciousIn (o .events) ≡ some ids → TimedOut h ids (o .after)
 
 -- the watch matters while shares are gathered, and then alone
 pub elsewhere : (p : Phase) (c : Coordinator) (w v : Watch) → ((t : SignatureType) → p ≡ gatheringShares t → ⊥) → Knows w p c → Knows v p c
@@ -111,19 +111,19 @@ asked-heard (watching q silent) r ids ws ws′ e i = (cc, i .1, i .2)
 module _ {h : Held} {heard : Option SignatureShareResponse} {start : Bool} {n : Answer} {after : Held} where
   -- an outcome without a nonce request and without a share timeout
   pub plain-good :
-      {es : List Event} → nonceRequestIn es ≡ none → markedIn es ≡ none
+      {es : List Event} → nonceRequestIn es ≡ none → newlyMaliciousIn es ≡ none
       → ((w : Watch) → Known w h → Known (watchAfter (shareRequestIn es) (start && eqb (n .number) 11) (listening w heard)) after)
       → Good h heard start (outcome n es after)
-  plain-good no-request no-mark keeps =
+  plain-good no-request no-exclusion keeps =
       record {
         opens = λ r e. absurd (Option·none-ne-some r (sym no-request ∙ e));
         keeps = keeps;
-        marks = λ ids e. absurd (Option·none-ne-some ids (sym no-mark ∙ e));
+        excludes = λ ids e. absurd (Option·none-ne-some ids (sym no-exclusion ∙ e));
       }
 
   -- and without a share request
   pub calm-good :
-      (es : List Event) → (nonceRequestIn es ≡ none) × (markedIn es ≡ none) × (shareRequestIn es ≡ none)
+      (es : List Event) → (nonceRequestIn es ≡ none) × (newlyMaliciousIn es ≡ none) × (shareRequestIn es ≡ none)
       → ((w : Watch) → Known w h → Known (listening w heard) after) → Good h heard start (outcome n es after)
   calm-good es calm moves =
       plain-good (calm .0) (calm .1) (λ w i. rw (calm .2) (unrequested (start && eqb (n .number) 11) (listening w heard) after (moves w i)))

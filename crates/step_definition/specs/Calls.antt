@@ -89,12 +89,12 @@ pub record Answer : Type 0 where
   pub mark : Bool
   pub bytes : List ℕ
 
--- what happened, beside the answer: a signer's response recorded, its shares taken, signers newly marked malicious (01: struck), a nonce
+-- what happened, beside the answer: a signer's response recorded, its shares taken, signers newly malicious (01: struck), a nonce
 -- request, whether it is a retry, a share request, a job
 pub data Event : Type 0 where
   recorded : ℕ → Event
   sharesTaken : ℕ → Event
-  marked : List ℕ → Event
+  newlyMalicious : List ℕ → Event
   requested : NonceRequest → Event
   retried : Event
   shareRequested : SignatureShareRequest → Event
@@ -104,29 +104,29 @@ pub data Event : Type 0 where
 pub record Shown : Type 0 where
   pub nonce-request : Option NonceRequest
   pub share-request : Option SignatureShareRequest
-  pub marked-ids : Option (List ℕ)
+  pub malicious-ids : Option (List ℕ)
 
 abbrev pub shownOf : Option NonceRequest → Option SignatureShareRequest → Option (List ℕ) → Shown
-shownOf n s m = record { nonce-request = n; share-request = s; marked-ids = m }
+shownOf n s m = record { nonce-request = n; share-request = s; malicious-ids = m }
 
 abbrev pub shown : Event → Shown
 shown (recorded id) = shownOf none none none
 shown (sharesTaken id) = shownOf none none none
-shown (marked ids) = shownOf none none (some ids)
+shown (newlyMalicious ids) = shownOf none none (some ids)
 shown (requested r) = shownOf (some r) none none
 shown retried = shownOf none none none
 shown (shareRequested r) = shownOf none (some r) none
 shown (jobWritten j) = shownOf none none none
 
--- the nonce request and the share request that a step sends, and whom its share timeout marks, if it fires
+-- the nonce request and the share request that a step sends, and whom its share timeout excludes, if it fires
 abbrev pub nonceRequestIn : List Event → Option NonceRequest
 nonceRequestIn es = first (λ (e : Event). shown e .nonce-request) es
 
 abbrev pub shareRequestIn : List Event → Option SignatureShareRequest
 shareRequestIn es = first (λ (e : Event). shown e .share-request) es
 
-abbrev pub markedIn : List Event → Option (List ℕ)
-markedIn es = first (λ (e : Event). shown e .marked-ids) es
+abbrev pub newlyMaliciousIn : List Event → Option (List ℕ)
+newlyMaliciousIn es = first (λ (e : Event). shown e .malicious-ids) es
 
 pub record Outcome : Type 0 where
   pub answer : Answer

@@ -1,6 +1,6 @@
 -- The signing phase as definitions, document 01's sections in its order: the configuration and the coordinator as values; calls and
 -- answers; each question with its number; what a call does (the step), call by call; what a refusal changes; runs; demand 3 with the
--- round's book; who may be marked. Below `rounds` stand examples: the worked rounds, and a round for each clause, table by table.
+-- round's book; who may be excluded. Below `rounds` stand examples: the worked rounds, and a round for each clause, table by table.
 pub mod Lists
 pub mod Ids
 pub mod Configuration

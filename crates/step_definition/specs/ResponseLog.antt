@@ -20,7 +20,7 @@ use Rattle.step_definition.specs.Phases.{contentOf, nonceResponseIn}
 use Rattle.step_definition.specs.Questions.{admitted}
 
 -- the request, its clock, and the four things: configuration, key-generation results (their dkg id stands in the request), held keys,
--- struck list
+-- malicious list (01: struck)
 pub record Opened : Type 0 where
   pub request : NonceRequest
   pub clock : ℕ

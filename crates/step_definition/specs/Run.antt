@@ -6,7 +6,7 @@ use Rattle.step_definition.specs.Coordinator.{Held, uncommissioned, misc
 use Rattle.step_definition.specs.Calls.{Call, Answer}
 use Rattle.step_definition.specs.Step.{step}
 
--- 01's struck list: nobody where there is no coordinator
+-- the malicious list (01: struck): nobody where there is no coordinator
 unfoldable pub maliciousIn : Held → List ℕ
 maliciousIn uncommissioned = []
 maliciousIn miscounted = []

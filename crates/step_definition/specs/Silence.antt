@@ -1,5 +1,5 @@
 -- Who was asked for shares and has not answered, kept beside a run from the share requests that leave and the packets that come: what the
--- share timeout may mark as malicious.
+-- share timeout may exclude as malicious.
 use Prim.Native.Nat.{ℕ}
 use mathlib.Core.Bool.{Bool, true, false, cond, _&&_, not, _||_}
 use mathlib.Core.List.{List, [], _∷_, map}

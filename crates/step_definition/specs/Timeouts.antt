@@ -9,7 +9,7 @@ use Rattle.layout.specs.Encode.{encodeNonceTimeout, encodeInsufficientSigners}
 use Rattle.step_definition.specs.Ids.{insertAll, without}
 use Rattle.step_definition.specs.Configuration.{numKeyIds}
 use Rattle.step_definition.specs.Coordinator.{Coordinator, commissioned, waitersOf, currentRecord, withMalicious}
-use Rattle.step_definition.specs.Calls.{result, marked, requested, retried, Outcome, outcome, sending, failing}
+use Rattle.step_definition.specs.Calls.{result, newlyMalicious, requested, retried, Outcome, outcome, sending, failing}
 use Rattle.step_definition.specs.Effects.{requestNonces, nonceRequestOf}
 use Rattle.step_definition.specs.Phases.{Phase, idling, gatheringNonces, gatheringShares, resting, phaseOf}
 use Rattle.step_definition.specs.Questions.{question12, fires}
@@ -36,8 +36,8 @@ shareTimeout now t root c =
     let after = requestNonces now t root excluded in
     ask (question12 c) (failing 12 [] c)
     (cond (ltb (g .num-keys - numKeyIds g malicious) (g .threshold))
-    (outcome (sending result (encodeInsufficientSigners malicious)) (marked new ∷ []) (commissioned excluded))
-    (sendsNonceRequest t root after (marked new ∷ (requested (nonceRequestOf t root after) ∷ (retried ∷ [])))))
+    (outcome (sending result (encodeInsufficientSigners malicious)) (newlyMalicious new ∷ []) (commissioned excluded))
+    (sendsNonceRequest t root after (newlyMalicious new ∷ (requested (nonceRequestOf t root after) ∷ (retried ∷ [])))))
 
 unfoldable pub timeoutIn : ℕ → Phase → Coordinator → Option Outcome
 timeoutIn now idling c = none

@@ -15,7 +15,7 @@ use Rattle.state.specs.declared.fields.Coordinator.{Coordinator}
 use Rattle.state.specs.View.{noRow}
 use Rattle.state.specs.Turns.{Did, unless, refusedAnswer, sendingAnswer}
 use Rattle.state.proofs.Turns.{refused-did, sent-did}
-use Rattle.timeout_results.specs.Named.{waitersIn, flaggedSigners}
+use Rattle.timeouts.specs.Named.{waitersIn, flaggedSigners}
 use Rattle.timeouts.specs.NonceTimeout.{currentPlace, recordAsked, nonceTimeoutBytes, nonceTimeoutTurn}
 
 module _ (s : Coordinator) (store : List ℕ) (p : ℕ) (at : p ≡ currentPlace s store) where

@@ -13,10 +13,10 @@ use Rattle.state.specs.declared.fields.Coordinator.{Coordinator}
 use Rattle.state.specs.View.{noRow}
 use Rattle.state.specs.Turns.{Turn, turn, unless}
 use Rattle.records.specs.Records.{recordPlace}
-use Rattle.timeout_results.specs.Named.{waitersIn, flaggedSigners}
+use Rattle.timeouts.specs.Named.{waitersIn, flaggedSigners}
 
 -- what 4 and 7 have found
-pub record Ready (s : Coordinator) (room : ℕ) : Type 0 where
+pub record TimeoutReady (s : Coordinator) (room : ℕ) : Type 0 where
   pub signers : s .config .count ≤ signerLimit
   pub records : s .records .count ≤ recordLimit
   pub message : s .message .len ≤ messageLimit

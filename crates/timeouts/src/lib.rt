@@ -1,16 +1,18 @@
-// A nonce timeout that fires: its result, or 12 where the current message has no record.
+// The results of the two timeouts; and a nonce timeout that fires: its result, or 12 where the current message has no record.
 ghost use mathlib.Core.Path.{_≡_};
 ghost use Prim.Native.Nat.{_≤_};
 ghost use lib.ListN.{length};
 ghost use Rattle.layout.specs.Limits.{messageLimit, recordLimit};
 ghost use Rattle.state.specs.Turns.{Did};
-ghost use Rattle.timeouts.specs.NonceTimeout.{currentPlace, Ready, nonceTimeoutTurn};
+ghost use Rattle.timeouts.specs.NonceTimeout.{currentPlace, TimeoutReady, nonceTimeoutTurn};
 use framing::Written;
 use records::records as rows;
 use state::answers;
 use state::answers::Class;
 use state::answers::Done;
 use state::fields::Coordinator;
+
+pub mod timeout_results;
 
 // The place of the current message's record.
 pub fn current_place(s: Coordinator, store: &[u8]) -> usize
@@ -25,7 +27,7 @@ pub fn current_place(s: Coordinator, store: &[u8]) -> usize
 }
 
 pub fn nonce_timeout(s: Coordinator, store: &[u8], out: &mut [u8]) -> Done
-    requires { ⌜ Ready s (length (now out)) ⌝ }
+    requires { ⌜ TimeoutReady s (length (now out)) ⌝ }
     ensures { λ r. ⌜ Did (nonceTimeoutTurn s (now (store .entry))) (now (out .entry)) r (now (store .entry)) (now (out .exit)) ⌝ }
 {
     let r = current_place(s, store);

@@ -32,7 +32,7 @@ abbrev groupHeld : Call
 groupHeld = at 0 (setKey aggregateKey true)
 
 -- 8 and 9.
--- "A refused packet is refused before any timeout is tested": 8 and 9 on a late clock mark nobody
+-- "A refused packet is refused before any timeout is tested": 8 and 9 on a late clock exclude nobody
 abbrev pub badPackets : Round
 badPackets =
     round gathered
@@ -289,7 +289,7 @@ invalidNonces =
     ∷ [])
     (left9 1)
 
--- "not struck" is told with the corners (lateWithMarked). The ids come before all of these
+-- "not struck" is told with the corners (lateWithMalicious). The ids come before all of these
 abbrev pub idsBeforeSilence : Round
 idsBeforeSilence =
     round oddly

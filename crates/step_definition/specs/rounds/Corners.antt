@@ -124,13 +124,13 @@ waitersOfCurrent =
     ∷ [])
     (left9 1)
 
--- after 0 and 1 were gathered and 0 stayed silent: retried at clock 11, 0 marked
+-- after 0 and 1 were gathered and 0 stayed silent: retried at clock 11, 0 malicious
 abbrev retry : List Call
 retry = gathered ++ (shares1 ∷ at 11 processTimeout ∷ [])
 
 -- "and the struck": the retry's clock runs from the retry on
-abbrev pub lateWithMarked : Round
-lateWithMarked =
+abbrev pub lateWithMalicious : Round
+lateWithMalicious =
     round retry
     (answers 11 (under (ids 2) q0) ⇒ nothingTold
     ∷ answers 11 (under (ids 2) q2) ⇒ recordedOf 2
@@ -146,7 +146,7 @@ everyWaiter =
     (at 11 processTimeout ⇒ insufficient (0 ∷ 1 ∷ []) (0 ∷ 1 ∷ []) ∷ [])
     (left (ids 1) nine (0 ∷ 1 ∷ []))
 
--- "Then num_keys − struck keys < `threshold` is InsufficientSigners": all the struck, and not only those of this timeout. Four signers with
+-- "Then num_keys − struck keys < `threshold` is InsufficientSigners": all the malicious, not only this timeout's. Four signers with
 -- a key each, both thresholds 2; three timeouts
 abbrev four : List SignerConfig
 four = signer 0 (1 ∷ []) ∷ signer 1 (2 ∷ []) ∷ signer 2 (3 ∷ []) ∷ signer 3 (4 ∷ []) ∷ []
@@ -172,7 +172,7 @@ threeExclusions =
     ∷ [])
     (left (ids 3) nine (0 ∷ 1 ∷ 2 ∷ []))
 
--- "state kept, strikes kept": the timeout fires again and marks nobody anew; 1 is still waited for, and its shares complete the job
+-- "state kept, strikes kept": the timeout fires again and excludes nobody anew; 1 is still waited for, and its shares complete the job
 abbrev pub insufficientAgain : Round
 insufficientAgain =
     round (gathered ++ (shares0 ∷ []))
@@ -220,7 +220,7 @@ refusedStartWraps =
     (starts 0 five Frost [] none ⇒ refuses 11 ∷ answers 0 (under (idsOf 1 0 1) q0) ⇒ recordedOf 0 ∷ [])
     (left (idsOf 1 0 1) five [])
 
--- the current message has no record: shares come to nothing and a timeout is 12, which marks nobody
+-- the current message has no record: shares come to nothing and a timeout is 12, which excludes nobody
 abbrev pub unrecordedMessage : Round
 unrecordedMessage =
     round gathered
@@ -239,9 +239,9 @@ otherRecord =
     ∷ [])
     (left (ids 1) five [])
 
--- the sign id is another: signers that answer the share request get 17, and the timeout marks them
-abbrev pub answeredAndMarked : Round
-answeredAndMarked =
+-- the sign id is another: signers that answer the share request get 17, and the timeout excludes them
+abbrev pub answeredAndMalicious : Round
+answeredAndMalicious =
     round gathered
     (starts 0 nine Schnorr [] none ⇒ refuses 11
     ∷ shares0 ⇒ fails 17 (1 ∷ 2 ∷ [])
@@ -390,7 +390,7 @@ shareIds =
     ∷ [])
     (left9 1)
 
--- "The waiter is removed before the key comparison.": after 22 good shares come to nothing, and the timeout marks only 0
+-- "The waiter is removed before the key comparison.": after 22 good shares come to nothing, and the timeout excludes only 0
 abbrev pub waiterRemoved : Round
 waiterRemoved =
     round gathered
@@ -411,7 +411,7 @@ spareKey =
     (at 11 processTimeout ⇒ retriedWith (1 ∷ []) (request9 2) ∷ [])
     (left (ids 2) nine (1 ∷ []))
 
--- the last waiter too can be removed with no job; a timeout then marks nobody
+-- the last waiter too can be removed with no job; a timeout then excludes nobody
 abbrev pub nobodyWaits : Round
 nobodyWaits =
     round gathered
@@ -458,9 +458,9 @@ resetEnds =
 abbrev pub resetKeeps : Round
 resetKeeps = round retry (at 11 reset ⇒ nothingTold ∷ []) (left (ids 2) nine (0 ∷ []))
 
--- and the struck list: 0 stays marked when key generation has ended anew
-abbrev pub resetKeepsMarked : Round
-resetKeepsMarked =
+-- and the malicious list: 0 stays malicious when key generation has ended anew
+abbrev pub resetKeepsMalicious : Round
+resetKeepsMalicious =
     round (retry ++ (at 11 reset ∷ at 11 (takeResults 1 all) ∷ starts 11 nine Frost [] (some 1) ∷ []))
     (answers 11 (under (ids 3) q0) ⇒ nothingTold ∷ answers 11 (under (ids 3) q1) ⇒ recordedOf 1 ∷ [])
     (left (ids 3) nine (0 ∷ []))
@@ -490,7 +490,7 @@ timeoutRounds =
     ∷ inTime
     ∷ recordOfAnother
     ∷ waitersOfCurrent
-    ∷ lateWithMarked
+    ∷ lateWithMalicious
     ∷ everyWaiter
     ∷ threeExclusions
     ∷ insufficientAgain
@@ -505,7 +505,7 @@ startRounds =
     ∷ refusedStartWraps
     ∷ unrecordedMessage
     ∷ otherRecord
-    ∷ answeredAndMarked
+    ∷ answeredAndMalicious
     ∷ renamedRound
     ∷ ownIds
     ∷ sharesHeld
@@ -534,7 +534,7 @@ messageRounds =
     ∷ aggregatorError
     ∷ resetEnds
     ∷ resetKeeps
-    ∷ resetKeepsMarked
+    ∷ resetKeepsMalicious
     ∷ resetDropsJob
     ∷ []
 

@@ -89,14 +89,14 @@ twoBeforeThree = refusesTo 2 (having 0 (signer 0 (1 ∷ 1 ∷ []) ∷ signer 1 (
 abbrev pub noEntry : Round
 noEntry = takes (having 0 (keyless 0 ∷ signer 1 [] ∷ []))
 
--- a job is out, and 1 is marked
-abbrev handedMarked : List Call
-handedMarked = gathered ++ (shares0 ∷ at 11 processTimeout ∷ shares1 ∷ [])
+-- a job is out, and 1 is malicious
+abbrev handedMalicious : List Call
+handedMalicious = gathered ++ (shares0 ∷ at 11 processTimeout ∷ shares1 ∷ [])
 
 -- it is not asked 4 (a short store is zeroed whole; later calls give 4) and not 5 (a job is out), and all that was held is gone
 abbrev pub commissionedAgain : Round
 commissionedAgain =
-    round handedMarked
+    round handedMalicious
     (commissions 0 example ⇒ nothingTold
     ∷ lends 0 answerLength mayIdle ⇒ refuses 4
     ∷ at 0 (aggregated true) ⇒ refuses 6

@@ -10,7 +10,7 @@ use Rattle.layout.specs.Messages.{SignatureShare, nonceRequest}
 use Rattle.state_table.specs.declared.State.the-variants.{DkgPublicDistribute}
 use Rattle.state_table.specs.States.{position}
 use Rattle.step_definition.specs.Calls.{canMove, processTimeout, aggregated}
-use Rattle.step_definition.specs.Calls.{result, marked, sharesTaken, jobWritten}
+use Rattle.step_definition.specs.Calls.{result, newlyMalicious, sharesTaken, jobWritten}
 use Rattle.step_definition.specs.rounds.Rounds.{signer, configuration, three, at, sends, starts, idsOf, ids, nine, root, nonce, good, responseOf, q0, q1, q2, under, answers, share, sharesOf}
 use Rattle.step_definition.specs.rounds.Rounds.{shares, shares0, shares1, request, shareRequest, shares9, jobOf, job9, ready, begunOf, gathered}
 use Rattle.step_definition.specs.rounds.Rounds.{tells, fails, saying, noncesAsked, retriedWith, recordedOf, sharesAsked, takenOf, jobGiven, _⇒_, left, left9, Round, round}
@@ -150,7 +150,7 @@ jobBytes =
     ∷ [])
     (left i nine [])
 
--- "33 NonceTimeout (waiters, struck)", "33 and 34 have only their lists": 2 waits, 0 is marked
+-- "33 NonceTimeout (waiters, struck)", "33 and 34 have only their lists": 2 waits, 0 is malicious
 abbrev pub nonceTimeoutBytes : Round
 nonceTimeoutBytes =
     round (gathered ++ (shares1 ∷ at 11 processTimeout ∷ answers 11 (under (ids 2) q2) ∷ []))
@@ -168,7 +168,7 @@ insufficientBytes =
     (at 11 processTimeout
     ⇒ tells
     (written result ((34 ∷ 0 ∷ 1 ∷ 0 ∷ []) ++ four 0 ++ replicate 24 0 ++ four 40 ++ four 8 ++ four 0 ++ four 1))
-    (marked (0 ∷ 1 ∷ []) ∷ [])
+    (newlyMalicious (0 ∷ 1 ∷ []) ∷ [])
     ∷ [])
     (left (ids 1) nine (0 ∷ 1 ∷ []))
 

@@ -134,7 +134,7 @@ abbrev pub uncommissionedStays : From
 uncommissionedStays = refused4 uncommissioned
 
 -- What a refusal changes.
--- "Otherwise nothing": 4, 6, 7, 8, 9, 12, 14, 16 to 19 and 24 in NonceGather, 0 marked, four messages recorded and not the current one
+-- "Otherwise nothing": 4, 6, 7, 8, 9, 12, 14, 16 to 19 and 24 in NonceGather, 0 malicious, four messages recorded and not the current one
 abbrev recorded4 : List SignRoundInfo
 recorded4 =
     answered (1 ∷ []) (q2 ∷ []) (2 ∷ [])
@@ -220,7 +220,7 @@ refused5 =
     ∷ [])
     h
 
--- 12 of a share timeout, where the current message has no record: nobody is marked. And 24 while shares are gathered
+-- 12 of a share timeout, where the current message has no record: nobody is excluded. And 24 while shares are gathered
 abbrev pub refusedSharing : From
 refusedSharing =
     let h = held (standing (2 ∷ [])) (ids 1) sharing (progress five (both (0 ∷ 1 ∷ []) ∷ []) (shared0 ∷ []) (some 2) (some 3)) false in
@@ -341,7 +341,7 @@ nothingIdle =
     ∷ unheard 99)
     h
 
--- NonceGather: "silently nothing unless", of 0's keys, 0's nonces, and 2, who is marked; "A second response to one message does nothing."
+-- NonceGather: "silently nothing unless", of 0's keys, 0's nonces, and malicious 2. "A second response to one message does nothing."
 abbrev pub nothingGathering : From
 nothingGathering =
     let i = idsOf 3 4 5 in
@@ -443,7 +443,7 @@ startedSharing =
     (starts 9 five Frost [] (some 7) ⇒ noncesAsked (request (idsOf 1 7 2) five Frost []) ∷ [])
     (held (standing (2 ∷ [])) (idsOf 1 7 2) nonces (progress five [] (shared1 ∷ []) (some 9) (some 3)) false)
 
--- by a retry, which also marks: 6 − 1 − 1 keys are the threshold, 4
+-- by a retry, which also excludes: 6 − 1 − 1 keys are the threshold, 4
 abbrev pub retriedWhole : From
 retriedWhole =
     from (held (standing (2 ∷ [])) (ids 1) sharing (progress nine (both (0 ∷ []) ∷ []) (shared1 ∷ []) (some 2) (some 3)) false)
@@ -507,9 +507,9 @@ sharesOfAnother =
     (held (standing (2 ∷ [])) (ids 1) sharing (progress nine (both [] ∷ []) (shared1 ∷ shared2 ∷ []) (some 2) (some 3)) true)
 
 -- States that no list of calls reaches.
--- a marked signer without an entry, or without a public key, counts no keys: 4 − 1 = 3
-abbrev pub markedWithoutKeys : From
-markedWithoutKeys =
+-- a malicious signer without an entry, or without a public key, counts no keys: 4 − 1 = 3
+abbrev pub maliciousWithoutKeys : From
+maliciousWithoutKeys =
     let s : List ℕ → Standing = λ malicious. standingOf (odd .config) (0 ∷ 1 ∷ []) true true malicious in
     from (held (s (3 ∷ 7 ∷ [])) (ids 1) sharing (progress nine (both (0 ∷ []) ∷ []) [] (some 0) (some 0)) false)
     (at 11 processTimeout ⇒ retriedWith (0 ∷ []) (request9 2) ∷ [])
@@ -637,7 +637,7 @@ takenRounds =
 -- states that no list of calls reaches
 abbrev unreachedRounds : List From
 unreachedRounds =
-    markedWithoutKeys
+    maliciousWithoutKeys
     ∷ twoRecords
     ∷ noClock
     ∷ jobInIdle

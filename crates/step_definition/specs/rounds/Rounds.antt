@@ -18,7 +18,7 @@ use Rattle.step_definition.specs.Coordinator.{Held, uncommissioned, misc
 use Rattle.step_definition.specs.Calls.{process, processMessage, coordinatorKey, aggregateKey, Request, commission, other, Call}
 use Rattle.step_definition.specs.Calls.{Operation, setKey, takeResults, startSigning, receive, processTimeout}
 use Rattle.step_definition.specs.Calls.{Class, nothing, packet, job, result, error, Answer}
-use Rattle.step_definition.specs.Calls.{Event, recorded, sharesTaken, marked, requested, retried, shareRequested, jobWritten}
+use Rattle.step_definition.specs.Calls.{Event, recorded, sharesTaken, newlyMalicious, requested, retried, shareRequested, jobWritten}
 use Rattle.step_definition.specs.Step.{step}
 use Rattle.step_definition.specs.Run.{final}
 
@@ -226,12 +226,12 @@ fails n values = tells (numbered result n values) []
 abbrev pub saying : ℕ → Told
 saying n = tells (valued (n ∷ [])) []
 
--- a nonce request leaves; after a share timeout that newly marked these
+-- a nonce request leaves; after a share timeout that excluded these
 abbrev pub noncesAsked : NonceRequest → Told
 noncesAsked r = tells (written packet (encode (nonceRequest r))) (requested r ∷ [])
 
 abbrev pub retriedWith : List ℕ → NonceRequest → Told
-retriedWith new r = tells (written packet (encode (nonceRequest r))) (marked new ∷ requested r ∷ retried ∷ [])
+retriedWith new r = tells (written packet (encode (nonceRequest r))) (newlyMalicious new ∷ requested r ∷ retried ∷ [])
 
 -- a signer's response is recorded; with it the share request leaves
 abbrev pub recordedOf : ℕ → Told
@@ -247,12 +247,12 @@ takenOf id = tells nothingSaid (sharesTaken id ∷ [])
 abbrev pub jobGiven : ℕ → Bool → Job → Told
 jobGiven id whole j = tells (handed whole (encodeJob j)) (sharesTaken id ∷ jobWritten j ∷ [])
 
--- NonceTimeout with waiters and struck; InsufficientSigners with the struck, of whom these are new
+-- NonceTimeout with waiters and malicious signers; InsufficientSigners with the malicious signers, of whom these are new
 abbrev pub noncesLate : List ℕ → List ℕ → Told
 noncesLate waiters malicious = tells (written result (encodeNonceTimeout waiters malicious)) []
 
 abbrev pub insufficient : List ℕ → List ℕ → Told
-insufficient new malicious = tells (written result (encodeInsufficientSigners malicious)) (marked new ∷ [])
+insufficient new malicious = tells (written result (encodeInsufficientSigners malicious)) (newlyMalicious new ∷ [])
 
 -- A call with what it tells: `call ⇒ told`.
 pub record Line : Type 0 where
@@ -263,7 +263,7 @@ infix 68 _⇒_
 abbrev pub _⇒_ : Call → Told → Line
 _⇒_ k t = record { call = k; told = t }
 
--- What is left in the end of a coordinator: its ids, its message and whom it has marked.
+-- What is left in the end of a coordinator: its ids, its message and its malicious signers.
 pub record Left : Type 0 where
   pub ids : Ids
   pub message : List ℕ
@@ -272,7 +272,7 @@ pub record Left : Type 0 where
 abbrev pub left : Ids → List ℕ → List ℕ → Option Left
 left i message malicious = some (record { ids = i; message = message; malicious = malicious })
 
--- message 9 in this iteration, nobody marked
+-- message 9 in this iteration, nobody malicious
 abbrev pub left9 : ℕ → Option Left
 left9 iteration = left (ids iteration) nine []
 

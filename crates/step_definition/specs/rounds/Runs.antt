@@ -56,7 +56,7 @@ asksTwo =
     (sees nothingSaid [] ∷ sees (written packet (encode (signatureShareRequest asked9))) [] ∷ [])
     (watching asked9 (0 ∷ 1 ∷ []))
 
--- 0 shares; the timeout marks 1, and the malicious list that is seen is the one after the call
+-- 0 shares; the timeout excludes 1, and the malicious list that is seen is the one after the call
 abbrev pub marksTheSilent : WatchedRun
 marksTheSilent =
     watchedRun gathered

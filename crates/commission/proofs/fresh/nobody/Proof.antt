@@ -3,10 +3,10 @@
 use Rattle.commission.proofs.fresh.nobody.Statement.{statement}
 use Rattle.commission.proofs.fresh.nobody.Tie as tie
 use mathlib.Core.Path.{refl}
-use Rattle.commission.specs.Commission.{nobodyMarked}
+use Rattle.commission.specs.Commission.{noMarks}
 
 returns : tie.Need-returns
-unfolding nobodyMarked
+unfolding noMarks
 returns c = refl
 
 pub nobody-spec : {M : Type 1} → statement M

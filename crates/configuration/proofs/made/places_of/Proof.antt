@@ -7,19 +7,19 @@ use mathlib.Core.Path.{_≡_, refl}
 use native.Mathlib.Omega.{arith}
 use lib.ListN.{length, length-set}
 use Rattle.validity.specs.Keys.{keyOf, keyPlaces}
-use Rattle.key_sets.specs.Sets.{inSet}
-use Rattle.key_sets.proofs.Given.{keys-160}
+use Rattle.configuration.specs.KeySet.{inSet}
+use Rattle.configuration.proofs.Given.{set-16}
 use Rattle.configuration.specs.Made.{filled}
 use Rattle.configuration.proofs.Walks.{fill-next}
 
 abbrev Inv-loop : tie.InvT-loop
-Inv-loop count given ids₀ i₀ ids i = (length given ≡ 160) × (length ids ≡ 16) × (count ≤ 16) × (i ≤ count) × (ids ≡ filled keyOf (keyOf 0) 16 given i)
+Inv-loop count given ids₀ i₀ ids i = (length given ≡ 16) × (length ids ≡ 16) × (count ≤ 16) × (i ≤ count) × (ids ≡ filled keyOf (keyOf 0) 16 given i)
 
 abbrev μ-loop : tie.MeasureT-loop
 μ-loop count given ids₀ i₀ ids i = count - i
 
 loop-holds : tie.Need-loop-holds Inv-loop μ-loop
-loop-holds c = (keys-160 (c .before .args .set) _ (c .before .good .0), refl, c .before .pre .0, omega arith, refl)
+loop-holds c = (set-16 (c .before .args .set) _ (c .before .good .0), refl, c .before .pre .0, omega arith, refl)
 
 mul-key : tie.Need-mul-key Inv-loop μ-loop
 mul-key c = omega arith

@@ -6,8 +6,8 @@ use mathlib.Core.Path.{sym, ap, _∙_}
 use native.Mathlib.Omega.{arith}
 use borrow.Author.Tests.{not-true, not-false}
 use lib.ListN.{length}
-use Rattle.key_sets.proofs.Given.{entry-16}
-use Rattle.key_sets.proofs.Sets.{listed-length, entry-few, set-there, set-none}
+use Rattle.state.proofs.Given.{entry-16}
+use Rattle.key_counts.proofs.Entries.{listed-length, entry-few, set-there, set-none}
 
 returns : tie.Need-returns
 returns c = (sym (ap length (set-none (c .before .before .args .e) (not-true _ (c .if1 .taken)))), omega arith)

@@ -52,10 +52,10 @@ use Rattle.packet_in_hand.proofs.Opened as O
 use Rattle.packet_in_hand.proofs.Opened.Laws as O′
 use Rattle.packet_in_hand.proofs.Packet.Laws as T′
 use Rattle.packet_in_hand.proofs.Held.{sliceAt, bytesOf, Bytes, OwnOpened, opened-bytes-kept}
-use Rattle.entries.specs.declared.Entry.{Entry}
-use Rattle.process.specs.Process.{readTurn, refusalOf, Ready}
-use Rattle.entries.proofs.Entry as E
-use Rattle.entries.proofs.Entry.Laws as E′
+use Rattle.packet_entry.specs.declared.Entry.{Entry}
+use Rattle.process.specs.Process.{readTurn, refusalOf, PacketReady}
+use Rattle.packet_entry.proofs.Entry as E
+use Rattle.packet_entry.proofs.Entry.Laws as E′
 use Rattle.process.proofs.Passed.{mutSliceAt, coordinatorVal, coordinator-tells, coordinator-typed, coordinator-copy, done-typed, entryVal, entry-tells, entry-typed, entry-copy}
 use Rattle.process.proofs.packets.unless_refused as callee
 use Rattle.process.proofs.packets.unless_refused.Symbol as def
@@ -161,7 +161,7 @@ module _ {M : Type 1} (𝓤 : URA M) (H : Heap 𝓤) (A : Atoms 𝓤) (W : Given
   Given-rows = C.the-row ∷ MutSlice (named 0) (κs .0) u8 ∷ MutSlice (named 1) (κs .1 .0) u8 ∷ u64 ∷ bool ∷ ShrSlice (named 2) (κs .1 .1 .0) u8 ∷ u8 ∷ E.the-row ∷ []
 
   abbrev Asked : Type 0
-  Asked = Ready s (now store) (length (now out)) × (o .refusal ≡ refusalOf (now (o .packet .bytes)))
+  Asked = PacketReady s (now store) (length (now out)) × (o .refusal ≡ refusalOf (now (o .packet .bytes)))
 
   asked : Asked → ent 𝓤 (onEntry 𝓤 H A callee.signature κs qs given-args passed) (Callee 𝓤 H A mem run .pre to)
   asked r = qed W (Toks ∷ ‵ (owns Given-rows given-args passed) ∷ []) ∵ says ! r $ frame ! $ done !

@@ -55,10 +55,10 @@ use Rattle.packet_in_hand.proofs.open as open-fn
 use Rattle.packet_in_hand.proofs.open.Symbol as open-def
 use Rattle.packet_in_hand.proofs.open.Met as open-thm
 use Rattle.packet_in_hand.proofs.Held.{sliceAt}
-use Rattle.entries.specs.declared.Entry.{Entry}
-use Rattle.process.specs.Process.{readTurn, refusalOf, Ready}
-use Rattle.entries.proofs.Entry as E
-use Rattle.entries.proofs.Entry.Laws as E′
+use Rattle.packet_entry.specs.declared.Entry.{Entry}
+use Rattle.process.specs.Process.{readTurn, refusalOf, PacketReady}
+use Rattle.packet_entry.proofs.Entry as E
+use Rattle.packet_entry.proofs.Entry.Laws as E′
 use Rattle.process.proofs.Passed.{mutSliceAt, coordinatorVal, coordinator-tells, coordinator-typed, coordinator-copy, done-typed, entryVal, entry-tells, entry-typed, entry-copy}
 use Rattle.process.proofs.packets.deliver as deliver
 use Rattle.process.proofs.packets.deliver.Symbol as deliver-def
@@ -219,7 +219,7 @@ module _ {M : Type 1} (𝓤 : URA M) (H : Heap 𝓤) (A : Atoms 𝓤) (W : Given
     Given-rows = C.the-row ∷ MutSlice (named 0) (κs .0) u8 ∷ MutSlice (named 1) (κs .1 .0) u8 ∷ u64 ∷ bool ∷ O.the-row α ∷ E.the-row ∷ []
 
     abbrev Asked : Type 0
-    Asked = Ready s (now store) (length (now out)) × (o .refusal ≡ refusalOf (now (o .packet .bytes)))
+    Asked = PacketReady s (now store) (length (now out)) × (o .refusal ≡ refusalOf (now (o .packet .bytes)))
 
     goes-deliver : Asked → ent 𝓤 (⋆ 𝓤 H A (‵ OwnO ∷ Last ∷ ‵ Rest ∷ [])) (sep 𝓤 (Deliver 𝓤 H A mem run .pre to) (sem 𝓤 H A Kept))
     goes-deliver r =
@@ -254,7 +254,7 @@ module _ {M : Type 1} (𝓤 : URA M) (H : Heap 𝓤) (A : Atoms 𝓤) (W : Given
   αᵉ = record { mir = erased; lft = κs .1 .1 .0 }
 
   module _ (C₀ : Calls 𝓤 H) (Λ : Loops 𝓤 H) (fm : FmC 𝓤 H (W .laws) C₀) (known-open : Triple 𝓤 (C₀ open-def.name) (Open 𝓤 H A mem run)) (known-deliver : Triple 𝓤 (C₀ deliver-def.name) (Deliver 𝓤 H A mem run)) (τ₀ τ₁ τ₇ : Ty) where
-    walk : Ready s (now store) (length (now out)) → Holds (hasTy τ₁ (coordinatorVal s)) × WT (coordinatorVal s) → Is (MutSlice (named 0) (κs .0) u8) store (sv store ∷ []) → Is (MutSlice (named 1) (κs .1 .0) u8) out (sv out ∷ [])
+    walk : PacketReady s (now store) (length (now out)) → Holds (hasTy τ₁ (coordinatorVal s)) × WT (coordinatorVal s) → Is (MutSlice (named 0) (κs .0) u8) store (sv store ∷ []) → Is (MutSlice (named 1) (κs .1 .0) u8) out (sv out ∷ [])
         → Is (ShrSlice (named 2) (κs .1 .1 .0) u8) b (sv b ∷ []) → Holds (hasTy τ₇ (entryVal e)) × WT (entryVal e) → ((d : Done) (v : Val) → Is Dn.the-row d (v ∷ []) → Holds (hasTy τ₀ v) × WT v)
         → ent 𝓤 (onEntry 𝓤 H A read.signature κs qs args vals) (WpFn 𝓤 H C₀ Λ (reading τ₀ τ₁ τ₇) (coordinatorVal s ∷ sv store ∷ sv out ∷ vint w64 clock ∷ vbool verdict ∷ sv b ∷ entryVal e ∷ []) Post)
     walk r typed-s is-store is-out is-b typed-e typed-d =

@@ -1,4 +1,4 @@
--- `exclude`: the waiters joined with those who are marked.
+-- `exclude`: the waiters joined with those who are malicious.
 -- Assumes nothing.
 use Rattle.share_timeout.specs.Exclusion.{excludedIn}
 use Rattle.share_timeout.proofs.exclusion.exclude.Statement.{statement}

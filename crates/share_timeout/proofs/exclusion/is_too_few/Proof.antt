@@ -4,7 +4,7 @@ use borrow.Author.Needs.{needs}
 use native.Mathlib.Omega.{arith}
 use Rattle.state.proofs.Within.{within, config-few, entries-within}
 use Rattle.share_timeout.specs.Exclusion.{tooFewKeys}
-use Rattle.share_timeout.proofs.Keys.{marked-few}
+use Rattle.share_timeout.proofs.Keys.{malicious-few}
 use Rattle.share_timeout.proofs.exclusion.is_too_few.Statement.{statement}
 use Rattle.share_timeout.proofs.exclusion.is_too_few.Tie as tie
 
@@ -15,7 +15,7 @@ cast-left : tie.Need-cast-left
 cast-left c = search needs
 
 sub-left : tie.Need-sub-left
-sub-left c = omega (arith, marked-few (c .before .before .before .args .s) (c .before .before .before .args .flags) (c .before .before .before .pre), c .before .keys-of .ensures)
+sub-left c = omega (arith, malicious-few (c .before .before .before .args .s) (c .before .before .before .args .flags) (c .before .before .before .pre), c .before .keys-of .ensures)
 
 cast-result : tie.Need-cast-result
 cast-result c = search needs

@@ -1,5 +1,0 @@
--- Laws of the keys of the signers.
--- Assumes nothing.
-pub mod Given
-pub mod Placing
-pub mod Sets

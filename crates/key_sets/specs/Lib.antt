@@ -1,2 +1,0 @@
--- What the keys of the signers come to.
-pub mod Sets

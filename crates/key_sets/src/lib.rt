@@ -1,2 +1,0 @@
-// Key sets in ascending order.
-pub mod keys;

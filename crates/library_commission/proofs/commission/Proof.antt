@@ -1,0 +1,63 @@
+-- Refused for a short buffer, or commissioned.
+-- Assumes nothing.
+use borrow.Author.Needs.{needs}
+use borrow.Author.Tests.{le-leb, lt-leb}
+use Rattle.state.proofs.Turns.{error-did}
+use Rattle.interface.proofs.Call.{called}
+use Rattle.library_commission.specs.Commissioned.{commissionedTurn}
+use Rattle.library_commission.proofs.commission.Statement.{statement}
+use Rattle.library_commission.proofs.commission.Tie as tie
+
+unsaved-requires : tie.Need-unsaved-requires
+unsaved-requires c κs = search needs
+
+refused-requires : tie.Need-refused-requires
+refused-requires c κs = search needs
+
+keep-requires : tie.Need-keep-requires
+keep-requires c κs = search needs
+
+same-length : tie.Need-same-length
+same-length c = search needs
+
+returns : tie.Need-returns
+unfolding commissionedTurn
+returns c =
+    rw (lt-leb _ _ (c .before .before .before .before .before .before .if1 .taken))
+    (called _ _ (rw (← c .before .before .before .before .before .unsaved .ensures) (error-did _ _ (c .before .before .before .before .refused .ensures))) (c .before .before .keep .ensures))
+
+new-config-requires : tie.Need-new-config-requires
+new-config-requires c κs = search needs
+
+commission-requires : tie.Need-commission-requires
+commission-requires c κs = search needs
+
+keep-requires-2 : tie.Need-keep-requires-2
+keep-requires-2 c κs = search needs
+
+same-length-2 : tie.Need-same-length-2
+same-length-2 c = search needs
+
+same-length-3 : tie.Need-same-length-3
+same-length-3 c = search needs
+
+returns-2 : tie.Need-returns-2
+unfolding commissionedTurn
+returns-2 c =
+    rw (le-leb _ _ (c .before .before .before .before .before .before .before .before .before .if1 .left), ← c .before .before .before .before .before .before .before .before .new-config .ensures) (called _ _ (c .before .before .before .before .before .before .commission .ensures) (c .before .before .keep2 .ensures))
+
+pub commission-spec : {M : Type 1} → statement M
+commission-spec =
+    tie.close
+    (tie.spec
+    unsaved-requires
+    refused-requires
+    keep-requires
+    same-length
+    returns
+    new-config-requires
+    commission-requires
+    keep-requires-2
+    same-length-2
+    same-length-3
+    returns-2)

@@ -1,0 +1,46 @@
+-- On the state that was loaded.
+-- Assumes nothing.
+use borrow.Author.Needs.{needs}
+use lib.ListN.{length}
+use Rattle.packet_entry.specs.declared.Entry.the-variants.{ProcessMessage}
+use Rattle.process.specs.Process.{receiveTurn}
+use Rattle.interface.specs.Configs.{isYes}
+use Rattle.interface.proofs.Call.{call}
+use Rattle.library_process.proofs.process_message.Statement.{statement}
+use Rattle.library_process.proofs.process_message.Tie as tie
+
+load-requires : tie.Need-load-requires
+load-requires c κs = search needs
+
+process-message-requires : tie.Need-process-message-requires
+process-message-requires c κs = search needs
+
+keep-requires : tie.Need-keep-requires
+keep-requires c κs = search needs
+
+same-length : tie.Need-same-length
+same-length c = search needs
+
+same-length-2 : tie.Need-same-length-2
+same-length-2 c = search needs
+
+same-length-3 : tie.Need-same-length-3
+same-length-3 c = search needs
+
+returns : tie.Need-returns
+returns c =
+    let args = c .before .before .before .before .before .before .before .before .before .before .before .before .before .before .before .before .before .before .args in
+    call (λ s. receiveTurn ProcessMessage (args .clock) (isYes (args .verdict)) (args .packet .now) (length (args .out .now)) s (args .store .now)) _
+    (c .before .before .before .before .before .before .before .before .before .before .before .before .load .ensures) (c .before .before .before .before .before .before .before .before .process-message .ensures) (c .before .before .keep .ensures)
+
+pub process-message-spec : {M : Type 1} → statement M
+process-message-spec =
+    tie.close
+    (tie.spec
+    load-requires
+    process-message-requires
+    keep-requires
+    same-length
+    same-length-2
+    same-length-3
+    returns)

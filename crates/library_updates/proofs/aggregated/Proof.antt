@@ -1,0 +1,30 @@
+-- On the state that was loaded.
+-- Assumes nothing.
+use borrow.Author.Needs.{needs}
+use Rattle.calls.specs.Calls.{aggregatedTurn}
+use Rattle.interface.specs.Configs.{isYes}
+use Rattle.interface.proofs.Call.{call}
+use Rattle.library_updates.proofs.aggregated.Statement.{statement}
+use Rattle.library_updates.proofs.aggregated.Tie as tie
+
+load-requires : tie.Need-load-requires
+load-requires c κs = search needs
+
+aggregated-requires : tie.Need-aggregated-requires
+aggregated-requires c κs = search needs
+
+keep-requires : tie.Need-keep-requires
+keep-requires c κs = search needs
+
+same-length : tie.Need-same-length
+same-length c = search needs
+
+returns : tie.Need-returns
+returns c =
+    let args = c .before .before .before .before .before .before .before .before .before .before .args in
+    call (λ s. aggregatedTurn (isYes (args .ok)) s (args .store .now)) _
+    (c .before .before .before .before .before .before .load .ensures) (c .before .before .before .before .aggregated .ensures) (c .before .before .keep .ensures)
+
+pub aggregated-spec : {M : Type 1} → statement M
+aggregated-spec =
+    tie.close (tie.spec load-requires aggregated-requires keep-requires same-length returns)

@@ -1,3 +1,0 @@
--- What a round's parts stand for.
--- Assumes nothing.
-pub mod Viewed

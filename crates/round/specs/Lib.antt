@@ -1,2 +1,0 @@
--- Parts of a round.
-pub mod Round

@@ -1,3 +1,0 @@
--- Laws of the results of timeouts.
--- Assumes nothing.
-pub mod Writes

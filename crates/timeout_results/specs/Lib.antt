@@ -1,2 +1,0 @@
--- Whom the results of timeouts name.
-pub mod Named
