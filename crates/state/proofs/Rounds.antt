@@ -16,7 +16,10 @@ use Rattle.state.specs.Rounds.{laid, holding, helds, placing, positions,
 
 -- all tables in one computation
 tables : (map holding helds ≡ helds) × (map placing positions ≡ positions) × (map counting counts ≡ counts) × (map saying answers ≡ answers)
-unfolding number every rootLength entriesIn idsIn nonceIn noncesIn bytesAt responseAt sharesFrom listed placeSlot slotsFrom withSome collect sum entries entryWithin keyCount configWithin slotWithin rowWithin recordsWithin sharesWithin isWithin reading signerIn configOf rootBytes positionOf placeOf rowOf rowsFrom standingOf roundOf coordinatorOf heldIf view laid holding helds placing positions counting counts said answerOf saying answers
+unfolding number every rootLength entriesIn idsIn nonceIn noncesIn bytesAt responseAt sharesFrom listed placeSlot
+    slotsFrom withSome collect sum entries entryWithin keyCount configWithin slotWithin rowWithin recordsWithin
+    sharesWithin isWithin reading signerIn configOf rootBytes positionOf placeOf rowOf rowsFrom standingOf roundOf
+    coordinatorOf heldIf view laid holding helds placing positions counting counts said answerOf saying answers
 tables = (refl, refl, refl, refl)
 
 pub view-rounds : map holding helds ≡ helds

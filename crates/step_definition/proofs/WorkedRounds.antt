@@ -81,7 +81,21 @@ tables :
     × (map count atLimits ≡ atLimits)
     × (map playRun watchedRuns ≡ watchedRuns)
     × Met
-unfolding le number joined every sameBytes entries idsIn nonceIn noncesIn shareIn responseIn requestIn shareRequestIn shareResponseIn messageIn responseWithin keyCount within decode headerBytes table packet idBytes nonceBytes shareBytes responseParts encodeResponse header parts encode encodeJob encodeNonceTimeout encodeInsufficientSigners headerIn partAt partsFrom tiles dkgOnly headed framed wholeEntries wholeShare wholeResponse responseLaidOut wholeRoot wholeLists laidOut typeOf rootLength member subset sameSet validPoint validNonce noncesValid accepted canMoveTo sameType typesAgree same find change insertBy insertAll remove without distinct next previous question1 question2 setSizes question3 ascendingSigners ascending numKeyIds question4 question5 question6 question7 asks before question9 question10 question11 fires question12 question13 question14 question15 admitted question19 question20 question21 question22 question24 question25 rootFor recvKeyIds shareKeyIds joinedKeys joinedNonces joinedShares whole startRound idleRequest idle nonceTimeout shareTimeout timeoutIn nonceVerdict recordVerdict onRecord onNonces shareVerdict anyWaits takeVerdict onTake onShares messageIn′ onMessage onPacket onAggregated onResults own onCommission onHeld stepOf final played leftIn play playFrom rounds corners commissionings everyCall asked jobs kept first plainOperation plainRequest groupKeyIn firstShareRequest orLater configWithin recordWithin sharesWithin withinLimits count atLimits maliciousIn run sealed heardIn heardBy heardOn heard listen listening watchAfter watch watched playRun watchedRuns
+unfolding le number joined every sameBytes entries idsIn nonceIn noncesIn shareIn responseIn requestIn shareRequestIn
+    shareResponseIn messageIn responseWithin keyCount within decode headerBytes table packet idBytes nonceBytes
+    shareBytes responseParts encodeResponse header parts encode encodeJob encodeNonceTimeout encodeInsufficientSigners
+    headerIn partAt partsFrom tiles dkgOnly headed framed wholeEntries wholeShare wholeResponse responseLaidOut
+    wholeRoot wholeLists laidOut typeOf rootLength member subset sameSet validPoint validNonce noncesValid accepted
+    canMoveTo sameType typesAgree same find change insertBy insertAll remove without distinct next previous question1
+    question2 setSizes question3 ascendingSigners ascending numKeyIds question4 question5 question6 question7 asks
+    before question9 question10 question11 fires question12 question13 question14 question15 admitted question19
+    question20 question21 question22 question24 question25 rootFor recvKeyIds shareKeyIds joinedKeys joinedNonces
+    joinedShares whole startRound idleRequest idle nonceTimeout shareTimeout timeoutIn nonceVerdict recordVerdict
+    onRecord onNonces shareVerdict anyWaits takeVerdict onTake onShares messageIn′ onMessage onPacket onAggregated
+    onResults own onCommission onHeld stepOf final played leftIn play playFrom rounds corners commissionings everyCall
+    asked jobs kept first plainOperation plainRequest groupKeyIn firstShareRequest orLater configWithin recordWithin
+    sharesWithin withinLimits count atLimits maliciousIn run sealed heardIn heardBy heardOn heard listen listening
+    watchAfter watch watched playRun watchedRuns
 tables = (
   refl,
   refl,

@@ -9,7 +9,9 @@ quiet-requires : tie.Need-quiet-requires
 quiet-requires c κs = search needs
 
 returns : tie.Need-returns
-returns c store = current-did _ _ _ _ (c .before .before .before .before .before .before .before .before .pre .0 .header) store (c .before .if1 .taken) (c .quiet .ensures)
+returns c store =
+    let start = c .before .before .before .before .before .before .before .before in
+    current-did _ _ _ _ (start .pre .0 .header) store (c .before .if1 .taken) (c .quiet .ensures)
 
 with-iteration-requires : tie.Need-with-iteration-requires
 with-iteration-requires c κs = search needs
@@ -24,13 +26,26 @@ signature-type-requires : tie.Need-signature-type-requires
 signature-type-requires c κs = search needs
 
 begin-requires : tie.Need-begin-requires
-begin-requires c κs = (rw (c .before .before .before .message .ensures .0) (c .before .before .before .before .before .before .before .before .before .before .before .before .pre .0 .short (c .before .before .before .before .before .before .before .before .before .before .before .before .pre .1)), c .before .before .before .before .before .before .before .before .before .before .before .before .pre .0 .wide)
+begin-requires c κs =
+    let after-message = c .before .before .before in
+    let else1 = after-message .before .before in
+    let start = else1 .before .before .before .before .before .before .before in
+    (rw (after-message .message .ensures .0) (start .pre .0 .short (start .pre .1)), start .pre .0 .wide)
 
 same-length : tie.Need-same-length
 same-length c = search needs
 
 returns-2 : tie.Need-returns-2
-returns-2 c store = another-did _ _ _ _ (c .before .before .before .before .before .before .before .before .before .before .before .before .before .before .before .pre .0 .header) store _ _ _ _ (c .before .before .before .before .before .before .before .before .if1 .left) (c .before .before .before .before .before .before .message .ensures .0) (rw (c .before .before .before .before .before .root-of .ensures, c .before .before .before .before .signature-type .ensures, c .before .before .before .before .before .before .before .before .before .before .before .before .before .before .before .pre .0 .header)) (c .before .before .before .before .before .before .before .with-iteration .ensures) (c .before .before .begin .ensures store)
+returns-2 c store =
+    let after-signature-type = c .before .before .before .before in
+    let after-root-of = after-signature-type .before in
+    let after-message = after-root-of .before in
+    let after-with-iteration = after-message .before in
+    let else1 = after-with-iteration .before in
+    let start = else1 .before .before .before .before .before .before .before in
+    another-did _ _ _ _ (start .pre .0 .header) store _ _ _ _ (else1 .if1 .left) (after-message .message .ensures .0)
+    (rw (after-root-of .root-of .ensures, after-signature-type .signature-type .ensures, start .pre .0 .header))
+    (after-with-iteration .with-iteration .ensures) (c .before .before .begin .ensures store)
 
 pub nonce-request-spec : {M : Type 1} → statement M
 nonce-request-spec =

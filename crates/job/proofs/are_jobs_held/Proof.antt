@@ -14,7 +14,8 @@ use Rattle.job.specs.Job.{jobHolds, signersIn, jobsHold}
 use Rattle.job.proofs.Held.{jobs-10, live-none}
 
 abbrev Inv-loop : tie.InvT-loop
-Inv-loop size count places i₀ i = (i ≤ count) × (every (jobHolds size) (drop i (take count places)) ≡ every (jobHolds size) (take count places))
+Inv-loop size count places i₀ i =
+    (i ≤ count) × (every (jobHolds size) (drop i (take count places)) ≡ every (jobHolds size) (take count places))
 
 abbrev μ-loop : tie.MeasureT-loop
 μ-loop size count places i₀ i = count - i
@@ -41,15 +42,20 @@ tested :
     → let a = c .before .before .before .before .before .before .args in let ps = take (a .ps .count) (a .ps .places) in
     b && every (jobHolds (a .size)) (drop (c .before .before .before .loop .i + 1) ps) ≡ every (jobHolds (a .size)) ps
 tested c b e =
-    let start = c .before .before .before .before .before .before in
+    let at-loop = c .before .before .before in
+    let start = at-loop .before .before .before in
     let ps = start .args .ps in
-    let l = c .before .before .before .loop in
+    let l = at-loop .loop in
     let ten : length (ps .places) ≡ 10 = jobs-10 ps _ (start .good .1 .0) in
-    sym (every-live _ (ps .places) (ps .count) (l .i) _ b (c .before .before .loop-test .taken) (omega arith) (sym (c .is-job-held .ensures) ∙ e)) ∙ l .inv .1
+    sym
+    (every-live _ (ps .places) (ps .count) (l .i) _ b (c .before .before .loop-test .taken) (omega arith)
+    (sym (c .is-job-held .ensures) ∙ e)) ∙ l .inv .1
 
 returns-2 : tie.Need-returns-2 Inv-loop μ-loop
 unfolding jobsHold signersIn
-returns-2 c = rw (le-leb _ _ (c .before .before .before .before .before .before .if1 .left)) (tested (c .before) false (not-true _ (c .if2 .taken)))
+returns-2 c =
+    let else1 = c .before .before .before .before .before .before in
+    rw (le-leb _ _ (else1 .if1 .left)) (tested (c .before) false (not-true _ (c .if2 .taken)))
 
 add-i : tie.Need-add-i Inv-loop μ-loop
 add-i c = omega arith

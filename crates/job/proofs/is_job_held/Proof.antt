@@ -23,9 +23,16 @@ is-held-requires-2 c κs = search needs
 returns-2 : tie.Need-returns-2
 unfolding jobHolds
 returns-2 c =
+    let else1 = c .before .before .before in
+    let after-is-held = else1 .before in
     let second = c .before .is-held2 in
-    let first = c .before .before .before .before .is-held in
-    rw (← second .ensures, ← first .ensures, not-false (first .result) (c .before .before .before .if1 .left), not-true (second .result) (c .if2 .taken))
+    let first = after-is-held .is-held in
+    rw (
+      ← second .ensures,
+      ← first .ensures,
+      not-false (first .result) (else1 .if1 .left),
+      not-true (second .result) (c .if2 .taken),
+    )
 
 is-held-requires-3 : tie.Need-is-held-requires-3
 is-held-requires-3 c κs = search needs
@@ -33,10 +40,21 @@ is-held-requires-3 c κs = search needs
 returns-3 : tie.Need-returns-3
 unfolding jobHolds
 returns-3 c =
+    let else2 = c .before .before .before in
+    let after-is-held2 = else2 .before in
+    let else1 = after-is-held2 .before .before in
+    let after-is-held = else1 .before in
     let third = c .before .is-held3 in
-    let second = c .before .before .before .before .is-held2 in
-    let first = c .before .before .before .before .before .before .before .is-held in
-    rw (← third .ensures, ← second .ensures, ← first .ensures, not-false (first .result) (c .before .before .before .before .before .before .if1 .left), not-false (second .result) (c .before .before .before .if2 .left), not-true (third .result) (c .if3 .taken))
+    let second = after-is-held2 .is-held2 in
+    let first = after-is-held .is-held in
+    rw (
+      ← third .ensures,
+      ← second .ensures,
+      ← first .ensures,
+      not-false (first .result) (else1 .if1 .left),
+      not-false (second .result) (else2 .if2 .left),
+      not-true (third .result) (c .if3 .taken),
+    )
 
 share-key-total-requires : tie.Need-share-key-total-requires
 share-key-total-requires c κs = held _ _ _ _ (sym (c .before .is-held3 .ensures) ∙ not-false _ (c .if3 .left)) .few
@@ -47,10 +65,24 @@ is-held-requires-4 c κs = search needs
 returns-4 : tie.Need-returns-4
 unfolding jobHolds shareKeys
 returns-4 c =
-    let third = c .before .before .before .is-held3 in
-    let second = c .before .before .before .before .before .before .is-held2 in
-    let first = c .before .before .before .before .before .before .before .before .before .is-held in
-    rw (← c .before .share-key-total .ensures, ← c .is-held4 .ensures, ← third .ensures, ← second .ensures, ← first .ensures, not-false (first .result) (c .before .before .before .before .before .before .before .before .if1 .left), not-false (second .result) (c .before .before .before .before .before .if2 .left), not-false (third .result) (c .before .before .if3 .left))
+    let after-is-held3 = c .before .before .before in
+    let else2 = after-is-held3 .before .before in
+    let after-is-held2 = else2 .before in
+    let else1 = after-is-held2 .before .before in
+    let after-is-held = else1 .before in
+    let third = after-is-held3 .is-held3 in
+    let second = after-is-held2 .is-held2 in
+    let first = after-is-held .is-held in
+    rw (
+      ← c .before .share-key-total .ensures,
+      ← c .is-held4 .ensures,
+      ← third .ensures,
+      ← second .ensures,
+      ← first .ensures,
+      not-false (first .result) (else1 .if1 .left),
+      not-false (second .result) (else2 .if2 .left),
+      not-false (third .result) (c .before .before .if3 .left),
+    )
 
 pub is-job-held-spec : {M : Type 1} → statement M
 is-job-held-spec =

@@ -36,7 +36,8 @@ record Turn (all rest : List JobPlace) (p : JobPlace) (keys nonces shares : ℕ)
 turn :
     (c : tie.In-loop Inv-loop μ-loop)
     → let ps = c .before .before .before .args .ps in let l = c .before .loop in
-    Turn (take (ps .count) (ps .places)) (drop (l .i + 1) (take (ps .count) (ps .places))) (signerAt ps (l .i)) (l .keys) (l .nonces) (l .shares)
+    Turn (take (ps .count) (ps .places)) (drop (l .i + 1) (take (ps .count) (ps .places))) (signerAt ps (l .i))
+    (l .keys) (l .nonces) (l .shares)
 unfolding total joined signersIn
 turn c =
     let start = c .before .before .before in
@@ -46,7 +47,11 @@ turn c =
     record {
       keys-next = omega (arith, rw live at (l .inv .1));
       nonces-next = omega (arith, rw live at (l .inv .2));
-      shares-next = omega (arith, signer-shares _ ps (start .pre) _ (start .good .1 .0) (l .i) (c .loop-test .taken), rw (live, length-append) at (l .inv .3));
+      shares-next = omega (
+        arith,
+        signer-shares _ ps (start .pre) _ (start .good .1 .0) (l .i) (c .loop-test .taken),
+        rw (live, length-append) at (l .inv .3),
+      );
       keys-small = lists-short _ ps (start .pre) KeyIds;
       nonces-small = lists-short _ ps (start .pre) Nonces;
       shares-small = all-few _ ps (start .pre);
@@ -92,7 +97,10 @@ loop-less : tie.Need-loop-less Inv-loop μ-loop
 loop-less c = omega arith
 
 loop-again : tie.Need-loop-again Inv-loop μ-loop
-loop-again c = let t = turn (c .before .before .before .before .before .before .before) in (omega arith, t .keys-next, t .nonces-next, t .shares-next)
+loop-again c =
+    let in-loop = c .before .before .before .before .before .before .before in
+    let t = turn in-loop in
+    (omega arith, t .keys-next, t .nonces-next, t .shares-next)
 
 returns : tie.Need-returns Inv-loop μ-loop
 unfolding total joined signersIn

@@ -17,8 +17,10 @@ use Rattle.job.proofs.Parts.{put-pairs-next}
 abbrev Inv-loop : tie.InvT-loop
 Inv-loop out₀ size places count next₀ i₀ out next i =
     (i ≤ count)
-    × (next .pair + 8 * length (joined (map shareLengths (drop i (take count places)))) ≡ next₀ .pair + 8 * length (joined (map shareLengths (take count places))))
-    × (next .at + total (joined (map shareLengths (drop i (take count places)))) ≡ next₀ .at + total (joined (map shareLengths (take count places))))
+    × (next .pair + 8 * length (joined (map shareLengths (drop i (take count places))))
+    ≡ next₀ .pair + 8 * length (joined (map shareLengths (take count places))))
+    × (next .at + total (joined (map shareLengths (drop i (take count places))))
+    ≡ next₀ .at + total (joined (map shareLengths (take count places))))
     × (put out (next .pair) (pairs (next .at) (joined (map shareLengths (drop i (take count places)))))
     ≡ put out₀ (next₀ .pair) (pairs (next₀ .at) (joined (map shareLengths (take count places)))))
 

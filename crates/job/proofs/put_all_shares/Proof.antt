@@ -19,8 +19,10 @@ use Rattle.job.proofs.Lists.{joined-map, length-shares}
 abbrev Inv-loop : tie.InvT-loop
 Inv-loop out₀ at source places count next₀ i₀ out next i =
     (i ≤ count)
-    × (next + total (joined (map shareLengths (drop i (take count places)))) ≡ at + total (joined (map shareLengths (take count places))))
-    × (put out next (joined (map shareBytes (sharesOf source (drop i (take count places))))) ≡ put out₀ at (joined (map shareBytes (sharesOf source (take count places)))))
+    × (next + total (joined (map shareLengths (drop i (take count places))))
+    ≡ at + total (joined (map shareLengths (take count places))))
+    × (put out next (joined (map shareBytes (sharesOf source (drop i (take count places)))))
+    ≡ put out₀ at (joined (map shareBytes (sharesOf source (take count places)))))
 
 abbrev μ-loop : tie.MeasureT-loop
 μ-loop out₀ at source places count next₀ i₀ out next i = count - i
@@ -53,18 +55,24 @@ loop-again : tie.Need-loop-again Inv-loop μ-loop
 unfolding joined sharesOf
 loop-again c =
     let turn = c .before .before .before .before .before in
-    let start = turn .before .before .before .before .before in
+    let at-loop = turn .before in
+    let after-shared-slice-known = at-loop .before .before in
+    let start = after-shared-slice-known .before .before in
     let a = start .args in
     let ok = start .pre .1 in
-    let l = turn .before .loop in
+    let l = at-loop .loop in
     let source = now (a .source) in
     let p = signerAt (a .ps) (l .i) in
     let shares = c .before .before .put-shares .ensures in
     let live = signer-live _ (a .ps) ok _ (start .good .1 .1 .1 .0) (l .i) (turn .loop-test .taken) in
-    let size = length-shares source (λ k. turn .before .before .before .shared-slice-known .given k .fits) p (signer-held _ (a .ps) ok _ (start .good .1 .1 .1 .0) (l .i) (turn .loop-test .taken)) in (
+    let size = length-shares source (λ k. after-shared-slice-known .shared-slice-known .given k .fits) p
+    (signer-held _ (a .ps) ok _ (start .good .1 .1 .1 .0) (l .i) (turn .loop-test .taken)) in (
       omega arith,
       omega (arith, shares .0, rw (live, total-append) at (l .inv .1)),
-      rw (shares .1, shares .0) (put-next (l .out) (l .next) _ (l .next + total (shareLengths p)) _ (ap (λ (k : ℕ). l .next + k) size) ∙ ap (put (l .out) (l .next)) (sym (joined-map shareBytes (sharesAt source p) _ refl)) ∙ rw live at (l .inv .2)),
+      rw (shares .1, shares .0)
+          (put-next (l .out) (l .next) _ (l .next + total (shareLengths p)) _ (ap (λ (k : ℕ). l .next + k) size)
+          ∙ ap (put (l .out) (l .next)) (sym (joined-map shareBytes (sharesAt source p) _ refl))
+          ∙ rw live at (l .inv .2)),
     )
 
 -- nothing is left to write after the loop

@@ -44,7 +44,10 @@ add-keys-at-2 : tie.Need-add-keys-at-2
 add-keys-at-2 c = omega (arith, root (c .before .before), length-rootOf (c .before .before .before .before .before .args .head))
 
 add-nonces-at : tie.Need-add-nonces-at
-add-nonces-at c = omega (arith, root (c .before .before .before), length-rootOf (c .before .before .before .before .before .before .args .head))
+add-nonces-at c =
+    let after-root-length = c .before .before .before in
+    let start = after-root-length .before .before .before in
+    omega (arith, root after-root-length, length-rootOf (start .args .head))
 
 add-t18 : tie.Need-add-t18
 add-t18 c = search needs
@@ -68,19 +71,39 @@ put-pair-requires-4 : tie.Need-put-pair-requires-4
 put-pair-requires-4 c κs = search needs
 
 add-t13 : tie.Need-add-t13
-add-t13 c = omega (arith, root (c .before .before .before .before .before .before .before .before .before .before .before .before .before .before .before .before .before .before .before .before .before .before .before .before .before), length-rootOf (c .before .before .before .before .before .before .before .before .before .before .before .before .before .before .before .before .before .before .before .before .before .before .before .before .before .before .before .before .args .head), c .before .before .before .before .before .before .before .before .before .before .before .before .before .before .before .before .before .before .before .before .before .before .before .before .before .before .before .before .pre)
+add-t13 c =
+    let after-put-pair3 = c .before .before .before .before .before .before .before in
+    let after-put-pair = after-put-pair3 .before .before .before .before .before .before .before .before in
+    let after-put-header = after-put-pair .before .before .before .before in
+    let after-root-length = after-put-header .before .before .before .before .before .before in
+    let start = after-root-length .before .before .before in
+    omega (arith, root after-root-length, length-rootOf (start .args .head), start .pre)
 
 same-length : tie.Need-same-length
 same-length c = search needs
 
 returns : tie.Need-returns
 returns c =
-    let header = c .before .before .before .before .before .before .before .before .before .before .before .before .before .before .before .before .before .before .before .put-header .ensures in
-    let type = c .before .before .before .before .before .before .before .before .before .before .before .before .before .before .before .before .before .before .before .before .before .before .before .before .before .before .type-number .ensures in (
+    let after-put-pair4 = c .before .before .before in
+    let after-put-pair3 = after-put-pair4 .before .before .before .before in
+    let after-put-pair2 = after-put-pair3 .before .before .before .before in
+    let after-put-pair = after-put-pair2 .before .before .before .before in
+    let after-put-header = after-put-pair .before .before .before .before in
+    let after-root-length = after-put-header .before .before .before .before .before .before in
+    let after-type-number = after-root-length .before in
+    let header = after-put-header .put-header .ensures in
+    let type = after-type-number .type-number .ensures in (
       refl,
-      rw (root (c .before .before .before .before .before .before .before .before .before .before .before .before .before .before .before .before .before .before .before .before .before .before .before .before .before)),
-      rw (c .before .before .before .put-pair4 .ensures, c .before .before .before .before .before .before .before .put-pair3 .ensures, c .before .before .before .before .before .before .before .before .before .before .before .put-pair2 .ensures, c .before .before .before .before .before .before .before .before .before .before .before .before .before .before .before .put-pair .ensures, header, root (c .before .before .before .before .before .before .before .before .before .before .before .before .before .before .before .before .before .before .before .before .before .before .before .before .before), type)
-          (put-frame _ _ _ (_ ∷ (_ ∷ (_ ∷ (_ ∷ []))))),
+      rw (root after-root-length),
+      rw (
+        after-put-pair4 .put-pair4 .ensures,
+        after-put-pair3 .put-pair3 .ensures,
+        after-put-pair2 .put-pair2 .ensures,
+        after-put-pair .put-pair .ensures,
+        header,
+        root after-root-length,
+        type,
+      ) (put-frame _ _ _ (_ ∷ (_ ∷ (_ ∷ (_ ∷ []))))),
     )
 
 pub put-job-frame-spec : {M : Type 1} → statement M

@@ -19,8 +19,10 @@ use Rattle.job.proofs.Held.{signerAt, live-none, width-small, signers-f
 abbrev Inv-loop : tie.InvT-loop
 Inv-loop out₀ at list source places count next₀ i₀ out next i =
     (i ≤ count)
-    × (next + total (map (listLength list) (drop i (take count places))) ≡ at + total (map (listLength list) (take count places)))
-    × (put out next (joined (map (listBytes list source) (drop i (take count places)))) ≡ put out₀ at (joined (map (listBytes list source) (take count places))))
+    × (next + total (map (listLength list) (drop i (take count places)))
+    ≡ at + total (map (listLength list) (take count places)))
+    × (put out next (joined (map (listBytes list source) (drop i (take count places))))
+    ≡ put out₀ at (joined (map (listBytes list source) (take count places))))
 
 abbrev μ-loop : tie.MeasureT-loop
 μ-loop out₀ at list source places count next₀ i₀ out next i = count - i
@@ -52,7 +54,8 @@ list-place-requires : tie.Need-list-place-requires Inv-loop μ-loop
 list-place-requires c κs =
     let turn = c .before in
     let start = turn .before .before .before .before .before in
-    signer-held _ (start .args .ps) (start .pre .1) _ (start .good .1 .1 .1 .1 .0) (turn .before .loop .i) (turn .loop-test .taken) .list (start .args .list) .few
+    signer-held _ (start .args .ps) (start .pre .1) _ (start .good .1 .1 .1 .1 .0) (c .before .before .loop .i)
+    (turn .loop-test .taken) .list (start .args .list) .few
 
 part-requires : tie.Need-part-requires Inv-loop μ-loop
 part-requires c κs = tt
@@ -64,10 +67,16 @@ copy-requires : tie.Need-copy-requires Inv-loop μ-loop
 copy-requires c κs = tt
 
 cast-next : tie.Need-cast-next Inv-loop μ-loop
-cast-next c = omega (arith, fits (c .before .before .before .before .before .before .before .before), c .before .before .before .before .before .before .list-place .ensures)
+cast-next c =
+    let after-list-place = c .before .before .before .before .before .before in
+    let in-loop = after-list-place .before .before in
+    omega (arith, fits in-loop, after-list-place .list-place .ensures)
 
 add-next : tie.Need-add-next Inv-loop μ-loop
-add-next c = omega (arith, fits (c .before .before .before .before .before .before .before .before), c .before .before .before .before .before .before .list-place .ensures)
+add-next c =
+    let after-list-place = c .before .before .before .before .before .before in
+    let in-loop = after-list-place .before .before in
+    omega (arith, fits in-loop, after-list-place .list-place .ensures)
 
 add-i : tie.Need-add-i Inv-loop μ-loop
 add-i c = omega arith
@@ -78,21 +87,28 @@ loop-less c = omega arith
 loop-again : tie.Need-loop-again Inv-loop μ-loop
 unfolding total joined bytesAt
 loop-again c =
-    let turn = c .before .before .before .before .before .before .before .before in
-    let start = turn .before .before .before .before .before in
+    let after-copy = c .before .before .before in
+    let after-part = after-copy .before .before in
+    let after-list-place = after-part .before in
+    let turn = after-list-place .before .before in
+    let at-loop = turn .before in
+    let after-shared-slice-known = at-loop .before .before in
+    let start = after-shared-slice-known .before .before in
     let a = start .args in
     let ok = start .pre .1 in
-    let l = turn .before .loop in
+    let l = at-loop .loop in
     let source = now (a .source) in
-    let place = c .before .before .before .before .before .before .list-place .ensures in
+    let place = after-list-place .list-place .ensures in
     let p = signerAt (a .ps) (l .i) in
     let live = signer-live _ (a .ps) ok _ (start .good .1 .1 .1 .1 .0) (l .i) (turn .loop-test .taken) in
     let held = signer-held _ (a .ps) ok _ (start .good .1 .1 .1 .1 .0) (l .i) (turn .loop-test .taken) in
-    let size = length-bytesAt source (λ k. turn .before .before .before .shared-slice-known .given k .fits) 16 (listOf (a .list) p) (width (a .list)) (held .list (a .list)) in (
+    let size = length-bytesAt source (λ k. after-shared-slice-known .shared-slice-known .given k .fits) 16
+    (listOf (a .list) p) (width (a .list)) (held .list (a .list)) in (
       omega arith,
       omega (arith, place .1, rw live at (l .inv .1)),
-      rw (c .before .before .before .copy .ensures, c .before .before .before .before .before .part .ensures, place .0, place .1)
-          (put-next (l .out) (l .next) (listBytes (a .list) source p) (l .next + listLength (a .list) p) _ (ap (λ (k : ℕ). l .next + k) size) ∙ rw live at (l .inv .2)),
+      rw (after-copy .copy .ensures, after-part .part .ensures, place .0, place .1)
+          (put-next (l .out) (l .next) (listBytes (a .list) source p) (l .next + listLength (a .list) p) _
+          (ap (λ (k : ℕ). l .next + k) size) ∙ rw live at (l .inv .2)),
     )
 
 -- nothing is left to write after the loop

@@ -34,10 +34,20 @@ same-length c = search needs
 
 returns : tie.Need-returns
 returns c =
-    let a = c .before .before .before .before .before .before .before .before .before .before .before .before .args in
+    let after-copy = c .before .before .before .before .before .before in
+    let after-part2 = after-copy .before .before in
+    let after-part = after-part2 .before in
+    let start = after-part .before .before .before in
+    let a = start .args in
     let source = now (a .source) in
-    let size : length (take 36 (drop (a .share-at) source)) ≡ 36 = length-take-le 36 (drop (a .share-at) source) (rw length-drop (omega arith)) in
-    rw (c .before .before .copy2 .ensures, c .before .before .before .before .before .before .copy .ensures, c .before .before .before .before .before .before .before .before .before .part .ensures, c .before .before .before .before .before .before .before .before .part2 .ensures) (put-next _ _ _ (a .at + 36) _ (omega arith))
+    let size : length (take 36 (drop (a .share-at) source)) ≡ 36 =
+    length-take-le 36 (drop (a .share-at) source) (rw length-drop (omega arith)) in
+    rw (
+      c .before .before .copy2 .ensures,
+      after-copy .copy .ensures,
+      after-part .part .ensures,
+      after-part2 .part2 .ensures,
+    ) (put-next _ _ _ (a .at + 36) _ (omega arith))
 
 pub put-share-spec : {M : Type 1} → statement M
 put-share-spec =

@@ -20,14 +20,19 @@ abbrev Inv-loop : tie.InvT-loop
 Inv-loop out₀ counts count pair₀ at₀ i₀ out pair at i =
     (i ≤ count) × (pair ≡ pair₀ + 8 * i) × (at ≤ at₀ + 1056 * i)
     × (at + total (map shareLength (drop i (take count counts))) ≡ at₀ + total (map shareLength (take count counts)))
-    × (put out pair (pairs at (map shareLength (drop i (take count counts)))) ≡ put out₀ pair₀ (pairs at₀ (map shareLength (take count counts))))
+    × (put out pair (pairs at (map shareLength (drop i (take count counts))))
+    ≡ put out₀ pair₀ (pairs at₀ (map shareLength (take count counts))))
 
 abbrev μ-loop : tie.MeasureT-loop
 μ-loop out₀ counts count pair₀ at₀ i₀ out pair at i = count - i
 
 -- the count at i is a byte
-byte : (c : tie.In-loop Inv-loop μ-loop) → getD (c .before .before .before .before .before .args .p .«share_key_counts») (c .before .loop .i) 0 < 256
-byte c = let start = c .before .before .before .before .before in counts-bytes (start .args .p) _ (start .good .1 .1 .0) (c .before .loop .i)
+byte :
+    (c : tie.In-loop Inv-loop μ-loop)
+    → getD (c .before .before .before .before .before .args .p .«share_key_counts») (c .before .loop .i) 0 < 256
+byte c =
+    let start = c .before .before .before .before .before in
+    counts-bytes (start .args .p) _ (start .good .1 .1 .0) (c .before .loop .i)
 
 loop-holds : tie.Need-loop-holds Inv-loop μ-loop
 loop-holds c = (omega arith, omega arith, omega arith, refl, refl)
@@ -62,14 +67,17 @@ loop-less c = omega arith
 loop-again : tie.Need-loop-again Inv-loop μ-loop
 unfolding total
 loop-again c =
-    let start = c .before .before .before .before .before .before .before .before .before in
+    let in-loop = c .before .before .before .before in
+    let at-loop = in-loop .before in
+    let start = at-loop .before .before .before .before in
     let p = start .args .p in
-    let l = c .before .before .before .before .before .loop in
+    let l = at-loop .loop in
     let sixteen : length (p .«share_key_counts») ≡ 16 = counts-16 p _ (start .good .1 .1 .0) in
-    let next = map-live shareLength (p .«share_key_counts») (p .shares .count) (l .i) 0 _ (c .before .before .before .before .loop-test .taken) (omega arith) refl in (
+    let next = map-live shareLength (p .«share_key_counts») (p .shares .count) (l .i) 0 _ (in-loop .loop-test .taken)
+    (omega arith) refl in (
       omega arith,
       omega arith,
-      omega (arith, byte (c .before .before .before .before)),
+      omega (arith, byte in-loop),
       omega (arith, rw next at (l .inv .3)),
       rw (c .before .before .put-pair .ensures, put-pair-next) (rw next at (l .inv .4)),
     )
@@ -82,7 +90,8 @@ written c =
     let p = start .args .p in
     let l = c .before .loop in
     let sixteen : length (p .«share_key_counts») ≡ 16 = counts-16 p _ (start .good .1 .1 .0) in
-    let size : length (take (p .shares .count) (p .«share_key_counts»)) ≡ p .shares .count = length-take-le (p .shares .count) (p .«share_key_counts») (omega arith) in
+    let size : length (take (p .shares .count) (p .«share_key_counts»)) ≡ p .shares .count =
+    length-take-le (p .shares .count) (p .«share_key_counts») (omega arith) in
     let none = live-none (p .«share_key_counts») (p .shares .count) (l .i) (c .loop-test .left) in
     (rw length-map (omega arith), omega (arith, rw none at (l .inv .3)), rw none at (l .inv .4))
 

@@ -32,13 +32,16 @@ abbrev μ-loop : tie.MeasureT-loop
 
 -- a turn: the share at i, then those after it; it lies in the source, and its part is short
 record Turn (size : ℕ) (p : JobPlace) (i next share-at keys-at : ℕ) : Type 0 where
-  live : drop i (take (p .shares .count) (p .«share_key_counts»)) ≡ getD (p .«share_key_counts») i 0 ∷ drop (i + 1) (take (p .shares .count) (p .«share_key_counts»))
+  live : drop i (take (p .shares .count) (p .«share_key_counts»)) ≡ getD (p .«share_key_counts») i 0
+      ∷ drop (i + 1) (take (p .shares .count) (p .«share_key_counts»))
   few : getD (p .«share_key_counts») i 0 ≤ 255
   head : share-at + 36 ≤ size
   keys : keys-at + getD (p .«share_key_counts») i 0 * 4 ≤ size
   short : next + shareLength (getD (p .«share_key_counts») i 0) ≤ 1049216
 
-turn : (c : tie.In-loop Inv-loop μ-loop) → let a = c .before .before .before .before .before .before .args in let l = c .before .loop in Turn (length (now (a .source))) (a .p) (l .i) (l .next) (l .share-at) (l .keys-at)
+turn :
+    (c : tie.In-loop Inv-loop μ-loop) → let a = c .before .before .before .before .before .before .args in let l
+    = c .before .loop in Turn (length (now (a .source))) (a .p) (l .i) (l .next) (l .share-at) (l .keys-at)
 unfolding total keyCounts shareKeys shareLengths
 turn c =
     let start = c .before .before .before .before .before .before in
@@ -97,20 +100,25 @@ loop-less c = omega arith
 loop-again : tie.Need-loop-again Inv-loop μ-loop
 unfolding total joined
 loop-again c =
-    let t = turn (c .before .before .before .before) in
-    let start = c .before .before .before .before .before .before .before .before .before .before in
+    let in-loop = c .before .before .before .before in
+    let at-loop = in-loop .before in
+    let after-shared-slice-known = at-loop .before .before .before in
+    let start = after-shared-slice-known .before .before in
+    let t = turn in-loop in
     let a = start .args in
-    let l = c .before .before .before .before .before .loop in
+    let l = at-loop .loop in
     let source = now (a .source) in
     let n = getD (a .p .«share_key_counts») (l .i) 0 in
-    let bytes : Bytes source = λ k. c .before .before .before .before .before .before .before .before .shared-slice-known .given k .fits in
+    let bytes : Bytes source = λ k. after-shared-slice-known .shared-slice-known .given k .fits in
     let size = length-share source bytes (l .share-at) (l .keys-at) n (t .head) (t .keys) in
     let share = shares-next source bytes (l .share-at) (l .keys-at) n _ (t .head) (t .keys) in (
       omega arith,
       omega (arith, rw (t .live) at (l .inv .1)),
       omega (arith, rw (t .live) at (l .inv .2)),
       omega (arith, rw (t .live) at (l .inv .3)),
-      rw (c .before .before .put-share .ensures) (put-next (l .out) (l .next) _ (l .next + shareLength n) _ (ap (λ (k : ℕ). l .next + k) size) ∙ ap (λ (ps : List (List ℕ)). put (l .out) (l .next) (joined ps)) (sym share) ∙ rw (t .live) at (l .inv .4)),
+      rw (c .before .before .put-share .ensures)
+          (put-next (l .out) (l .next) _ (l .next + shareLength n) _ (ap (λ (k : ℕ). l .next + k) size)
+          ∙ ap (λ (ps : List (List ℕ)). put (l .out) (l .next) (joined ps)) (sym share) ∙ rw (t .live) at (l .inv .4)),
     )
 
 -- nothing is left to write after the loop

@@ -24,10 +24,14 @@ array-read-sum : tie.Need-array-read-sum Inv-loop μ-loop
 array-read-sum c = omega arith
 
 cast-sum : tie.Need-cast-sum Inv-loop μ-loop
-cast-sum c = omega (arith, counts-bytes (c .before .before .before .before .args .p) _ (c .before .before .before .before .good .0) (c .before .loop .i))
+cast-sum c =
+    let start = c .before .before .before .before in
+    omega (arith, counts-bytes (start .args .p) _ (start .good .0) (c .before .loop .i))
 
 add-sum : tie.Need-add-sum Inv-loop μ-loop
-add-sum c = omega (arith, counts-bytes (c .before .before .before .before .args .p) _ (c .before .before .before .before .good .0) (c .before .loop .i))
+add-sum c =
+    let start = c .before .before .before .before in
+    omega (arith, counts-bytes (start .args .p) _ (start .good .0) (c .before .loop .i))
 
 add-i : tie.Need-add-i Inv-loop μ-loop
 add-i c = omega arith

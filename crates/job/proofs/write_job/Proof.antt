@@ -37,11 +37,15 @@ are-jobs-held-requires c κs = search needs
 returns-3 : tie.Need-returns-3
 unfolding writeJob
 returns-3 c =
+    let else1 = c .before .before .before in
     let held = c .before .are-jobs-held in
-    refused-9 _ _ _ (c .before .before .before .if1 .left) (rw (le-leb _ _ (c .before .before .if2 .left), ← held .ensures, not-true (held .result) (c .if3 .taken)))
+    refused-9 _ _ _ (else1 .if1 .left)
+    (rw (le-leb _ _ (c .before .before .if2 .left), ← held .ensures, not-true (held .result) (c .if3 .taken)))
 
 -- the places hold
-hold : (c : tie.Else3) → let a = c .before .before .before .before .before .before .before .args in jobsHold (length (now (a .source))) (a .ps) ≡ true
+hold :
+    (c : tie.Else3) → let a = c .before .before .before .before .before .before .before .args in jobsHold
+    (length (now (a .source))) (a .ps) ≡ true
 hold c = sym (c .before .are-jobs-held .ensures) ∙ not-false _ (c .if3 .left)
 
 -- the lists are short
@@ -57,7 +61,16 @@ small c =
 
 -- where the shares begin
 start-small : (c : tie.After-put-job-frame) → c .put-job-frame .result .at ≤ 13000
-start-small c = omega (arith, small (c .before .before), c .put-job-frame .ensures .1, c .before .before .before .before .before .if2 .left, length-rootOf (c .before .before .before .before .before .before .before .before .before .before .args .head))
+start-small c =
+    let else2 = c .before .before .before .before .before in
+    let start = else2 .before .before .before .before .before in
+    omega (
+      arith,
+      small (c .before .before),
+      c .put-job-frame .ensures .1,
+      else2 .if2 .left,
+      length-rootOf (start .args .head),
+    )
 
 list-totals-requires : tie.Need-list-totals-requires
 list-totals-requires c κs = hold c
@@ -69,7 +82,10 @@ put-job-frame-requires : tie.Need-put-job-frame-requires
 put-job-frame-requires c κs = let s = small (c .before) in (omega arith, s .0, s .1, s .2)
 
 put-all-share-pairs-requires : tie.Need-put-all-share-pairs-requires
-put-all-share-pairs-requires c κs = let frame = c .before .before .before in (frame .put-job-frame .ensures .0, start-small frame, hold (frame .before .before .before))
+put-all-share-pairs-requires c κs =
+    let frame = c .before .before .before in
+    let else3 = frame .before .before .before in
+    (frame .put-job-frame .ensures .0, start-small frame, hold else3)
 
 cast-put-body : tie.Need-cast-put-body
 cast-put-body c = search needs
@@ -90,13 +106,30 @@ sub-put-lists : tie.Need-sub-put-lists
 sub-put-lists c = search needs
 
 put-lists-requires : tie.Need-put-lists-requires
-put-lists-requires c κs = let frame = c .before .before .before .before .before .before .before .before .before .before .before .before .before .before in (omega (arith, start-small frame), hold (frame .before .before .before))
+put-lists-requires c κs =
+    let after-put-body = c .before .before .before .before .before in
+    let after-put-all-share-pairs = after-put-body .before .before .before .before .before in
+    let frame = after-put-all-share-pairs .before .before .before .before in
+    let else3 = frame .before .before .before in
+    (omega (arith, start-small frame), hold else3)
 
 put-lists-requires-2 : tie.Need-put-lists-requires-2
-put-lists-requires-2 c κs = let frame = c .before .before .before .before .before .before .before .before .before .before .before .before .before .before .before .before .before .before in (omega (arith, start-small frame), hold (frame .before .before .before))
+put-lists-requires-2 c κs =
+    let after-put-lists = c .before .before .before in
+    let after-put-body = after-put-lists .before .before .before .before .before .before in
+    let after-put-all-share-pairs = after-put-body .before .before .before .before .before in
+    let frame = after-put-all-share-pairs .before .before .before .before in
+    let else3 = frame .before .before .before in
+    (omega (arith, start-small frame), hold else3)
 
 put-all-shares-requires : tie.Need-put-all-shares-requires
-put-all-shares-requires c κs = let frame = c .before .before .before .before .before .before .before .before .before .before .before .before .before .before .before .before .before .before .before .before .before .before in (start-small frame, hold (frame .before .before .before))
+put-all-shares-requires c κs =
+    let after-put-lists = c .before .before .before .before .before .before .before in
+    let after-put-body = after-put-lists .before .before .before .before .before .before in
+    let after-put-all-share-pairs = after-put-body .before .before .before .before .before in
+    let frame = after-put-all-share-pairs .before .before .before .before in
+    let else3 = frame .before .before .before in
+    (start-small frame, hold else3)
 
 cast-t12 : tie.Need-cast-t12
 cast-t12 c = search needs
@@ -107,32 +140,66 @@ same-length c = search needs
 returns-4 : tie.Need-returns-4
 unfolding writeJob
 returns-4 c =
-    let held = c .before .before .before .before .before .before .before .before .before .before .before .before .before .before .before .before .before .before .before .before .before .before .before .before .before .before .before .before in
-    let a = c .before .before .before .before .before .before .before .before .before .before .before .before .before .before .before .before .before .before .before .before .before .before .before .before .before .before .before .before .before .before .before .before .before .before .before .args in
+    let after-put-lists2 = c .before .before .before .before .before .before in
+    let after-put-lists = after-put-lists2 .before .before .before .before in
+    let after-put-body = after-put-lists .before .before .before .before .before .before in
+    let after-put-all-share-pairs = after-put-body .before .before .before .before .before in
+    let after-put-job-frame = after-put-all-share-pairs .before .before .before .before in
+    let after-list-totals = after-put-job-frame .before .before in
+    let held = after-list-totals .before in
+    let else2 = held .before .before in
+    let else1 = else2 .before in
+    let after-shared-slice-known2 = else1 .before in
+    let start = after-shared-slice-known2 .before .before .before in
+    let a = start .args in
     let message = now (a .message) in
     let source = now (a .source) in
     let root = rootOf (a .head) in
     let ok = hold held in
-    let bytes : Bytes source = λ i. c .before .before .before .before .before .before .before .before .before .before .before .before .before .before .before .before .before .before .before .before .before .before .before .before .before .before .before .before .before .before .before .before .shared-slice-known2 .given i .fits in
+    let bytes : Bytes source = λ i. after-shared-slice-known2 .shared-slice-known2 .given i .fits in
     let qs = signersIn (a .ps) in
     let all = signers-hold _ (a .ps) ok in
     let keys = joined (map (listBytes KeyIds source) qs) in
     let nonces = joined (map (listBytes Nonces source) qs) in
     let rs = map shareBytes (sharesOf source qs) in
-    let t = c .before .before .before .before .before .before .before .before .before .before .before .before .before .before .before .before .before .before .before .before .before .before .before .before .before .before .before .list-totals in
-    let frame = c .before .before .before .before .before .before .before .before .before .before .before .before .before .before .before .before .before .before .before .before .before .before .before .before .before .put-job-frame in
-    let pairs = c .before .before .before .before .before .before .before .before .before .before .before .before .before .before .before .before .before .before .before .before .before .put-all-share-pairs .ensures in
+    let t = after-list-totals .list-totals in
+    let frame = after-put-job-frame .put-job-frame in
+    let pairs = after-put-all-share-pairs .put-all-share-pairs .ensures in
     let at = 64 + 8 * t .result .shares in
     let code = encode-at (a .head) message source bytes (a .ps) all in
     let lens : map length rs ≡ joined (map shareLengths qs) = share-lengths source bytes qs all in
     let keys-size : t .result .keys ≡ length keys = t .ensures .0 ∙ sym (length-lists source bytes qs all KeyIds) in
-    let nonces-size : t .result .nonces ≡ length nonces = t .ensures .1 ∙ sym (length-lists source bytes qs all Nonces) in
+    let nonces-size : t .result .nonces ≡ length nonces =
+    t .ensures .1 ∙ sym (length-lists source bytes qs all Nonces) in
     let count : t .result .shares ≡ length rs = t .ensures .2 ∙ sym (share-count source bytes qs all) in
-    wrote _ _ _ (c .before .before .before .before .before .before .before .before .before .before .before .before .before .before .before .before .before .before .before .before .before .before .before .before .before .before .before .before .before .before .before .if1 .left) (and-both _ _ (le-leb _ _ (c .before .before .before .before .before .before .before .before .before .before .before .before .before .before .before .before .before .before .before .before .before .before .before .before .before .before .before .before .before .before .if2 .left)) ok) _ _
-    (ap length code ∙ length-job _ message root keys nonces rs at (omega arith) ∙ rw lens (omega (arith, frame .ensures .1, pairs .0)))
-    (omega (arith, small (c .before .before .before .before .before .before .before .before .before .before .before .before .before .before .before .before .before .before .before .before .before .before .before .before .before .before .before), frame .ensures .1, pairs .0, c .before .before .before .before .before .before .before .before .before .before .before .before .before .before .before .before .before .before .before .before .before .before .before .before .before .before .before .before .before .before .if2 .left, length-rootOf (a .head), all-short _ (a .ps) ok))
-    (rw (c .before .before .put-all-shares .ensures, c .before .before .before .before .before .before .put-lists2 .ensures, c .before .before .before .before .before .before .before .before .before .before .put-lists .ensures, c .before .before .before .before .before .before .before .before .before .before .before .before .before .before .before .before .put-body .ensures, pairs .1, frame .ensures .2, frame .ensures .0, ← lens, code, ← t .ensures .2, keys-size, nonces-size)
-    (put-job _ message root keys nonces rs at (omega arith) _ _ _ _ (omega (arith, frame .ensures .1)) (omega (arith, frame .ensures .1)) (omega (arith, frame .ensures .1))))
+    wrote _ _ _ (else1 .if1 .left) (and-both _ _ (le-leb _ _ (else2 .if2 .left)) ok) _ _
+    (ap length code ∙ length-job _ message root keys nonces rs at (omega arith)
+    ∙ rw lens (omega (arith, frame .ensures .1, pairs .0)))
+    (omega (
+      arith,
+      small after-list-totals,
+      frame .ensures .1,
+      pairs .0,
+      else2 .if2 .left,
+      length-rootOf (a .head),
+      all-short _ (a .ps) ok,
+    ))
+    (rw (
+      c .before .before .put-all-shares .ensures,
+      after-put-lists2 .put-lists2 .ensures,
+      after-put-lists .put-lists .ensures,
+      after-put-body .put-body .ensures,
+      pairs .1,
+      frame .ensures .2,
+      frame .ensures .0,
+      ← lens,
+      code,
+      ← t .ensures .2,
+      keys-size,
+      nonces-size,
+    )
+    (put-job _ message root keys nonces rs at (omega arith) _ _ _ _ (omega (arith, frame .ensures .1))
+    (omega (arith, frame .ensures .1)) (omega (arith, frame .ensures .1))))
 
 pub write-job-spec : {M : Type 1} → statement M
 write-job-spec =

@@ -27,7 +27,17 @@ enum-known-verdict-2 : tie.Need-enum-known-verdict-2
 enum-known-verdict-2 c = search needs
 
 freed-requires : tie.Need-freed-requires
-freed-requires c κs = (row-low _ _ _ _ _ (c .before .before .before .before .before .before .before .before .pre .within) (waiter-told _ _ (c .before .before .before .before .before .before .before .before .pre .header) _ _ _ (c .before .before .before .decide .ensures) (Refused _ _ _) (c .before .verdict2 .given .1)), slot-few _ _ _ _ _ (c .before .before .before .before .before .before .before .before .pre .within) (waiter-told _ _ (c .before .before .before .before .before .before .before .before .pre .header) _ _ _ (c .before .before .before .decide .ensures) (Refused _ _ _) (c .before .verdict2 .given .1)))
+freed-requires c κs =
+    let after-verdict2 = c .before in
+    let after-decide = after-verdict2 .before .before in
+    let start = after-decide .before .before .before .before .before in (
+      row-low _ _ _ _ _ (start .pre .within)
+          (waiter-told _ _ (start .pre .header) _ _ _ (after-decide .decide .ensures) (Refused _ _ _)
+          (after-verdict2 .verdict2 .given .1)),
+      slot-few _ _ _ _ _ (start .pre .within)
+          (waiter-told _ _ (start .pre .header) _ _ _ (after-decide .decide .ensures) (Refused _ _ _)
+          (after-verdict2 .verdict2 .given .1)),
+    )
 
 blaming-requires : tie.Need-blaming-requires
 blaming-requires c κs = tt
@@ -36,7 +46,17 @@ enum-known-verdict-3 : tie.Need-enum-known-verdict-3
 enum-known-verdict-3 c = search needs
 
 freed-requires-2 : tie.Need-freed-requires-2
-freed-requires-2 c κs = (row-low _ _ _ _ _ (c .before .before .before .before .before .before .before .before .pre .within) (waiter-told _ _ (c .before .before .before .before .before .before .before .before .pre .header) _ _ _ (c .before .before .before .decide .ensures) (Unended _ _) (c .before .verdict3 .given .1)), slot-few _ _ _ _ _ (c .before .before .before .before .before .before .before .before .pre .within) (waiter-told _ _ (c .before .before .before .before .before .before .before .before .pre .header) _ _ _ (c .before .before .before .decide .ensures) (Unended _ _) (c .before .verdict3 .given .1)))
+freed-requires-2 c κs =
+    let after-verdict3 = c .before in
+    let after-decide = after-verdict3 .before .before in
+    let start = after-decide .before .before .before .before .before in (
+      row-low _ _ _ _ _ (start .pre .within)
+          (waiter-told _ _ (start .pre .header) _ _ _ (after-decide .decide .ensures) (Unended _ _)
+          (after-verdict3 .verdict3 .given .1)),
+      slot-few _ _ _ _ _ (start .pre .within)
+          (waiter-told _ _ (start .pre .header) _ _ _ (after-decide .decide .ensures) (Unended _ _)
+          (after-verdict3 .verdict3 .given .1)),
+    )
 
 quiet-requires-2 : tie.Need-quiet-requires-2
 quiet-requires-2 c κs = tt
@@ -45,34 +65,68 @@ enum-known-verdict-4 : tie.Need-enum-known-verdict-4
 enum-known-verdict-4 c = search needs
 
 freed-requires-3 : tie.Need-freed-requires-3
-freed-requires-3 c κs = (row-low _ _ _ _ _ (c .before .before .before .before .before .before .before .before .pre .within) (waiter-told _ _ (c .before .before .before .before .before .before .before .before .pre .header) _ _ _ (c .before .before .before .decide .ensures) (Good _ _) (c .before .verdict4 .given .1)), slot-few _ _ _ _ _ (c .before .before .before .before .before .before .before .before .pre .within) (waiter-told _ _ (c .before .before .before .before .before .before .before .before .pre .header) _ _ _ (c .before .before .before .decide .ensures) (Good _ _) (c .before .verdict4 .given .1)))
+freed-requires-3 c κs =
+    let after-verdict4 = c .before in
+    let after-decide = after-verdict4 .before .before in
+    let start = after-decide .before .before .before .before .before in (
+      row-low _ _ _ _ _ (start .pre .within)
+          (waiter-told _ _ (start .pre .header) _ _ _ (after-decide .decide .ensures) (Good _ _)
+          (after-verdict4 .verdict4 .given .1)),
+      slot-few _ _ _ _ _ (start .pre .within)
+          (waiter-told _ _ (start .pre .header) _ _ _ (after-decide .decide .ensures) (Good _ _)
+          (after-verdict4 .verdict4 .given .1)),
+    )
 
 take-shares-requires : tie.Need-take-shares-requires
-take-shares-requires c κs = rw (c .before .before .freed3 .ensures) (taking _ _ (c .before .before .before .before .before .before .before .before .before .before .before .pre .header) _ _ _ (c .before .before .before .before .before .before .decide .ensures) _ _ (shape _ _ (c .before .before .before .before .before .before .before .before .before .before .before .good .0)) (c .before .before .before .before .verdict4 .given .1) (c .before .before .before .before .before .before .before .before .before .before .before .pre))
+take-shares-requires c κs =
+    let after-verdict4 = c .before .before .before .before in
+    let after-decide = after-verdict4 .before .before in
+    let start = after-decide .before .before .before .before .before in
+    rw (c .before .before .freed3 .ensures)
+    (taking _ _ (start .pre .header) _ _ _ (after-decide .decide .ensures) _ _ (shape _ _ (start .good .0))
+    (after-verdict4 .verdict4 .given .1) (start .pre))
 
 same-length : tie.Need-same-length
 same-length c = search needs
 
 returns : tie.Need-returns
-returns c = unawaited-did _ _ (c .before .before .before .before .before .before .before .before .pre .header) _ _ _ (c .before .before .before .decide .ensures) _ (c .before .enum-told .given .1) (c .quiet .ensures)
+returns c =
+    let after-decide = c .before .before .before in
+    let start = after-decide .before .before .before .before .before in
+    unawaited-did _ _ (start .pre .header) _ _ _ (after-decide .decide .ensures) _ (c .before .enum-told .given .1)
+    (c .quiet .ensures)
 
 same-length-2 : tie.Need-same-length-2
 same-length-2 c = search needs
 
 returns-2 : tie.Need-returns-2
-returns-2 c = wrong-did _ _ (c .before .before .before .before .before .before .before .before .before .pre .header) _ _ _ (c .before .before .before .before .decide .ensures) _ _ _ _ (c .before .before .verdict .given .1) (c .mismatched .ensures)
+returns-2 c =
+    let after-decide = c .before .before .before .before in
+    let start = after-decide .before .before .before .before .before in
+    wrong-did _ _ (start .pre .header) _ _ _ (after-decide .decide .ensures) _ _ _ _
+    (c .before .before .verdict .given .1) (c .mismatched .ensures)
 
 same-length-3 : tie.Need-same-length-3
 same-length-3 c = search needs
 
 returns-3 : tie.Need-returns-3
-returns-3 c = refused-did _ _ (c .before .before .before .before .before .before .before .before .before .before .pre .header) _ _ _ (c .before .before .before .before .before .decide .ensures) _ _ _ _ (c .before .freed .ensures) _ (c .before .before .before .verdict2 .given .1) (c .blaming .ensures)
+returns-3 c =
+    let after-verdict2 = c .before .before .before in
+    let after-decide = after-verdict2 .before .before in
+    let start = after-decide .before .before .before .before .before in
+    refused-did _ _ (start .pre .header) _ _ _ (after-decide .decide .ensures) _ _ _ _ (c .before .freed .ensures) _
+    (after-verdict2 .verdict2 .given .1) (c .blaming .ensures)
 
 same-length-4 : tie.Need-same-length-4
 same-length-4 c = search needs
 
 returns-4 : tie.Need-returns-4
-returns-4 c = unended-did _ _ (c .before .before .before .before .before .before .before .before .before .before .pre .header) _ _ _ (c .before .before .before .before .before .decide .ensures) _ _ _ _ (c .before .freed2 .ensures) (c .before .before .before .verdict3 .given .1) (c .quiet2 .ensures)
+returns-4 c =
+    let after-verdict3 = c .before .before .before in
+    let after-decide = after-verdict3 .before .before in
+    let start = after-decide .before .before .before .before .before in
+    unended-did _ _ (start .pre .header) _ _ _ (after-decide .decide .ensures) _ _ _ _ (c .before .freed2 .ensures)
+    (after-verdict3 .verdict3 .given .1) (c .quiet2 .ensures)
 
 same-length-5 : tie.Need-same-length-5
 same-length-5 c = search needs
@@ -81,7 +135,14 @@ same-length-6 : tie.Need-same-length-6
 same-length-6 c = search needs
 
 returns-5 : tie.Need-returns-5
-returns-5 c = good-did _ _ (c .before .before .before .before .before .before .before .before .before .before .before .before .before .before .before .before .pre .header) _ _ _ (c .before .before .before .before .before .before .before .before .before .before .before .decide .ensures) _ _ _ _ (c .before .before .before .before .before .before .before .freed3 .ensures) _ _ (c .before .before .before .before .before .before .before .before .before .verdict4 .given .1) (c .before .before .before .before .take-shares .ensures)
+returns-5 c =
+    let after-take-shares = c .before .before .before .before in
+    let after-freed3 = after-take-shares .before .before .before in
+    let after-verdict4 = after-freed3 .before .before in
+    let after-decide = after-verdict4 .before .before in
+    let start = after-decide .before .before .before .before .before in
+    good-did _ _ (start .pre .header) _ _ _ (after-decide .decide .ensures) _ _ _ _ (after-freed3 .freed3 .ensures)
+    _ _ (after-verdict4 .verdict4 .given .1) (after-take-shares .take-shares .ensures)
 
 pub gather-shares-spec : {M : Type 1} → statement M
 gather-shares-spec =

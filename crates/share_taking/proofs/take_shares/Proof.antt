@@ -10,10 +10,14 @@ use Rattle.share_taking.proofs.take_shares.Statement.{statement}
 use Rattle.share_taking.proofs.take_shares.Tie as tie
 
 mul-slot : tie.Need-mul-slot
-mul-slot c = omega (arith, slot-low _ _ _ (c .before .before .before .before .pre .found), config-few _ (within _ (c .before .before .before .before .pre .within)))
+mul-slot c =
+    let start = c .before .before .before .before in
+    omega (arith, slot-low _ _ _ (start .pre .found), config-few _ (within _ (start .pre .within)))
 
 element-copy-out-slot : tie.Need-element-copy-out-slot
-element-copy-out-slot c = omega (arith, slot-low _ _ _ (c .before .before .before .before .pre .found), config-few _ (within _ (c .before .before .before .before .pre .within)))
+element-copy-out-slot c =
+    let start = c .before .before .before .before in
+    omega (arith, slot-low _ _ _ (start .pre .found), config-few _ (within _ (start .pre .within)))
 
 quiet-requires : tie.Need-quiet-requires
 quiet-requires c κs = tt
@@ -22,16 +26,29 @@ returns : tie.Need-returns
 returns c = held-did _ _ _ _ _ _ _ (c .before .if1 .taken) (c .quiet .ensures)
 
 keep-requires : tie.Need-keep-requires
-keep-requires c κs = (c .before .before .before .before .before .before .before .pre .shares, omega (arith, slot-low _ _ _ (c .before .before .before .before .before .before .before .pre .found), config-few _ (within _ (c .before .before .before .before .before .before .before .pre .within))))
+keep-requires c κs =
+    let start = c .before .before .before .before .before .before .before in (
+      start .pre .shares,
+      omega (arith, slot-low _ _ _ (start .pre .found), config-few _ (within _ (start .pre .within))),
+    )
 
 mul-row : tie.Need-mul-row
-mul-row c = omega (arith, c .before .before .before .before .before .before .before .before .before .before .before .before .pre .known, records-few _ (within _ (c .before .before .before .before .before .before .before .before .before .before .before .before .pre .within)))
+mul-row c =
+    let else1 = c .before .before .before .before .before .before in
+    let start = else1 .before .before .before .before .before .before in
+    omega (arith, start .pre .known, records-few _ (within _ (start .pre .within)))
 
 element-copy-out-row : tie.Need-element-copy-out-row
-element-copy-out-row c = omega (arith, c .before .before .before .before .before .before .before .before .before .before .before .before .pre .known, records-few _ (within _ (c .before .before .before .before .before .before .before .before .before .before .before .before .pre .within)))
+element-copy-out-row c =
+    let else1 = c .before .before .before .before .before .before in
+    let start = else1 .before .before .before .before .before .before in
+    omega (arith, start .pre .known, records-few _ (within _ (start .pre .within)))
 
 anyone-waits-requires : tie.Need-anyone-waits-requires
-anyone-waits-requires c κs = config-few _ (within _ (c .before .before .before .before .before .before .before .before .before .before .before .before .before .pre .within))
+anyone-waits-requires c κs =
+    let else1 = c .before .before .before .before .before .before .before in
+    let start = else1 .before .before .before .before .before .before in
+    config-few _ (within _ (start .pre .within))
 
 quiet-requires-2 : tie.Need-quiet-requires-2
 quiet-requires-2 c κs = tt
@@ -40,10 +57,20 @@ same-length : tie.Need-same-length
 same-length c = search needs
 
 returns-2 : tie.Need-returns-2
-returns-2 c = others-did _ _ _ _ _ _ _ (c .before .before .before .before .before .before .before .before .before .before .if1 .left) _ (c .before .before .anyone-waits .ensures _ _) _ _ (c .before .if2 .taken) (rw (c .before .before .before .before .before .before .before .before .keep .ensures .0)) (c .before .before .before .before .before .before .before .before .keep .ensures .1) (c .quiet2 .ensures)
+returns-2 c =
+    let after-keep = c .before .before .before .before .before .before .before .before in
+    let else1 = after-keep .before .before in
+    others-did _ _ _ _ _ _ _ (else1 .if1 .left) _ (c .before .before .anyone-waits .ensures _ _) _ _
+    (c .before .if2 .taken) (rw (after-keep .keep .ensures .0)) (after-keep .keep .ensures .1) (c .quiet2 .ensures)
 
 hand-job-requires : tie.Need-hand-job-requires
-hand-job-requires c κs = rw (c .before .before .before .before .before .before .before .before .before .keep .ensures .0, c .before .before .before .before .before .before .before .before .before .keep .ensures .1) (taken (c .before .before .before .before .before .before .before .before .before .before .before .before .before .before .before .before .before .args .signature-type) _ _ _ _ _ _ (shape _ _ (c .before .before .before .before .before .before .before .before .before .before .before .before .before .before .before .before .before .good .0)) (c .before .before .before .before .before .before .before .before .before .before .before .if1 .left) (c .before .before .before .before .before .before .before .before .before .before .before .before .before .before .before .before .before .pre))
+hand-job-requires c κs =
+    let else2 = c .before .before in
+    let after-keep = else2 .before .before .before .before .before .before .before in
+    let else1 = after-keep .before .before in
+    let start = else1 .before .before .before .before .before .before in
+    rw (after-keep .keep .ensures .0, after-keep .keep .ensures .1)
+    (taken (start .args .signature-type) _ _ _ _ _ _ (shape _ _ (start .good .0)) (else1 .if1 .left) (start .pre))
 
 same-length-2 : tie.Need-same-length-2
 same-length-2 c = search needs
@@ -52,7 +79,14 @@ same-length-3 : tie.Need-same-length-3
 same-length-3 c = search needs
 
 returns-3 : tie.Need-returns-3
-returns-3 c = last-did _ _ _ _ _ _ _ (c .before .before .before .before .before .before .before .before .before .before .before .before .before .before .if1 .left) _ (c .before .before .before .before .before .before .anyone-waits .ensures _ _) _ _ _ (c .before .before .before .before .before .if2 .left) (rw (c .before .before .before .before .before .before .before .before .before .before .before .before .keep .ensures .0)) (c .before .before .before .before .before .before .before .before .before .before .before .before .keep .ensures .1) (c .before .before .hand-job .ensures _)
+returns-3 c =
+    let else2 = c .before .before .before .before .before in
+    let after-anyone-waits = else2 .before in
+    let after-keep = after-anyone-waits .before .before .before .before .before .before in
+    let else1 = after-keep .before .before in
+    last-did _ _ _ _ _ _ _ (else1 .if1 .left) _ (after-anyone-waits .anyone-waits .ensures _ _) _ _ _
+    (else2 .if2 .left) (rw (after-keep .keep .ensures .0)) (after-keep .keep .ensures .1)
+    (c .before .before .hand-job .ensures _)
 
 pub take-shares-spec : {M : Type 1} → statement M
 take-shares-spec =

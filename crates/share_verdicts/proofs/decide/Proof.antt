@@ -20,18 +20,38 @@ enum-known-found : tie.Need-enum-known-found
 enum-known-found c = c .match .keys2
 
 current-place-requires : tie.Need-current-place-requires
-current-place-requires c κs = (leb-true _ _ (within _ (c .before .before .before .before .before .before .before .pre .within) .message), records-few _ (within _ (c .before .before .before .before .before .before .before .pre .within)))
+current-place-requires c κs =
+    let start = c .before .before .before .before .before .before .before in
+    (leb-true _ _ (within _ (start .pre .within) .message), records-few _ (within _ (start .pre .within)))
 
 waiter-verdict-requires : tie.Need-waiter-verdict-requires
-waiter-verdict-requires c κs = let low = slot-low (c .before .before .before .before .before .before .before .before .args .s .config) (c .before .before .before .before .before .before .before .before .args .h .«signer_id») (c .before .before .found .given .0 .0) (answer-some _ _ (sym (c .before .before .before .before .slot-of .ensures) ∙ c .before .before .found .given .1)) in (c .before .before .before .before .before .before .before .before .pre, omega (arith, config-few _ (within _ (c .before .before .before .before .before .before .before .before .pre .within))))
+waiter-verdict-requires c κs =
+    let after-found = c .before .before in
+    let after-slot-of = after-found .before .before in
+    let start = after-slot-of .before .before .before .before in
+    let low = slot-low (start .args .s .config) (start .args .h .«signer_id») (after-found .found .given .0 .0)
+    (answer-some _ _ (sym (after-slot-of .slot-of .ensures) ∙ after-found .found .given .1)) in
+    (start .pre, omega (arith, config-few _ (within _ (start .pre .within))))
 
 returns : tie.Need-returns
 unfolding verdictOf
-returns c = rw (slot-told _ _ (c .before .before .before .before .before .before .pre .header) (answer-none _ (sym (c .before .before .slot-of .ensures) ∙ c .enum-told .given .1)))
+returns c =
+    let start = c .before .before .before .before .before .before in
+    rw
+    (slot-told _ _ (start .pre .header)
+    (answer-none _ (sym (c .before .before .slot-of .ensures) ∙ c .enum-told .given .1)))
 
 returns-2 : tie.Need-returns-2
 unfolding verdictOf
-returns-2 c = rw (slot-told _ _ (c .before .before .before .before .before .before .before .before .before .pre .header) (answer-some _ _ (sym (c .before .before .before .before .before .slot-of .ensures) ∙ c .before .before .before .found .given .1)), ← c .before .current-place .ensures) (c .waiter-verdict .ensures)
+returns-2 c =
+    let after-found = c .before .before .before in
+    let after-slot-of = after-found .before .before in
+    let start = after-slot-of .before .before .before .before in
+    rw (
+      slot-told _ _ (start .pre .header)
+          (answer-some _ _ (sym (after-slot-of .slot-of .ensures) ∙ after-found .found .given .1)),
+      ← c .before .current-place .ensures,
+    ) (c .waiter-verdict .ensures)
 
 pub decide-spec : {M : Type 1} → statement M
 decide-spec =

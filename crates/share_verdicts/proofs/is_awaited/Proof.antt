@@ -24,11 +24,23 @@ element-copy-out-slot c = omega arith
 
 returns-2 : tie.Need-returns-2
 unfolding awaitedAt
-returns-2 c = rw (lt-ltb _ _ (c .before .before .before .before .if1 .left), not-true (slotAt (c .before .before .before .before .before .args .t1) (c .before .before .before .before .before .args .r) (c .before .before .before .before .before .args .i) .held) (c .if2 .taken))
+returns-2 c =
+    let else1 = c .before .before .before .before in
+    let start = else1 .before in
+    rw (
+      lt-ltb _ _ (else1 .if1 .left),
+      not-true (slotAt (start .args .t1) (start .args .r) (start .args .i) .held) (c .if2 .taken),
+    )
 
 returns-3 : tie.Need-returns-3
 unfolding awaitedAt
-returns-3 c = rw (lt-ltb _ _ (c .before .before .before .before .if1 .left), not-false (slotAt (c .before .before .before .before .before .args .t1) (c .before .before .before .before .before .args .r) (c .before .before .before .before .before .args .i) .held) (c .if2 .left))
+returns-3 c =
+    let else1 = c .before .before .before .before in
+    let start = else1 .before in
+    rw (
+      lt-ltb _ _ (else1 .if1 .left),
+      not-false (slotAt (start .args .t1) (start .args .r) (start .args .i) .held) (c .if2 .left),
+    )
 
 pub is-awaited-spec : {M : Type 1} → statement M
 is-awaited-spec =

@@ -14,7 +14,9 @@ element-copy-out-if1 c = omega arith
 
 returns : tie.Need-returns
 unfolding sharesVerdict
-returns c = rw (not-true (getD (c .before .before .before .before .args .s .marks .ended) (c .before .before .before .before .args .i) false) (c .if1 .taken))
+returns c =
+    let start = c .before .before .before .before in
+    rw (not-true (getD (start .args .s .marks .ended) (start .args .i) false) (c .if1 .taken))
 
 mul-entry : tie.Need-mul-entry
 mul-entry c = omega arith
@@ -24,21 +26,54 @@ element-copy-out-entry c = omega arith
 
 returns-2 : tie.Need-returns-2
 unfolding sharesVerdict
-returns-2 c = rw (not-false (getD (c .before .before .before .before .before .before .before .before .args .s .marks .ended) (c .before .before .before .before .before .before .before .before .args .i) false) (c .before .before .before .before .if1 .left), not-true (getD (c .before .before .before .before .before .before .before .before .args .s .config .signers) (c .before .before .before .before .before .before .before .before .args .i) noEntry .«has_keys») (c .if2 .taken))
+returns-2 c =
+    let else1 = c .before .before .before .before in
+    let start = else1 .before .before .before .before in
+    rw (
+      not-false (getD (start .args .s .marks .ended) (start .args .i) false) (else1 .if1 .left),
+      not-true (getD (start .args .s .config .signers) (start .args .i) noEntry .«has_keys») (c .if2 .taken),
+    )
 
 share-keys-requires : tie.Need-share-keys-requires
-share-keys-requires c κs = c .before .before .before .before .before .before .before .before .before .pre .0
+share-keys-requires c κs =
+    let else1 = c .before .before .before .before .before in
+    let start = else1 .before .before .before .before in
+    start .pre .0
 
 compare-requires : tie.Need-compare-requires
 compare-requires c κs = tt
 
 returns-3 : tie.Need-returns-3
 unfolding sharesVerdict
-returns-3 c = rw (not-false (getD (c .before .before .before .before .before .before .before .before .before .before .before .before .before .args .s .marks .ended) (c .before .before .before .before .before .before .before .before .before .before .before .before .before .args .i) false) (c .before .before .before .before .before .before .before .before .before .if1 .left), not-false (getD (c .before .before .before .before .before .before .before .before .before .before .before .before .before .args .s .config .signers) (c .before .before .before .before .before .before .before .before .before .before .before .before .before .args .i) noEntry .«has_keys») (c .before .before .before .before .before .if2 .left), ← c .before .before .before .share-keys .ensures, ← c .before .before .compare .ensures, not-true (c .before .before .compare .result .same) (c .if3 .taken))
+returns-3 c =
+    let after-compare = c .before .before in
+    let after-share-keys = after-compare .before in
+    let else2 = after-share-keys .before .before in
+    let else1 = else2 .before .before .before .before in
+    let start = else1 .before .before .before .before in
+    rw (
+      not-false (getD (start .args .s .marks .ended) (start .args .i) false) (else1 .if1 .left),
+      not-false (getD (start .args .s .config .signers) (start .args .i) noEntry .«has_keys») (else2 .if2 .left),
+      ← after-share-keys .share-keys .ensures,
+      ← after-compare .compare .ensures,
+      not-true (after-compare .compare .result .same) (c .if3 .taken),
+    )
 
 returns-4 : tie.Need-returns-4
 unfolding sharesVerdict
-returns-4 c = rw (not-false (getD (c .before .before .before .before .before .before .before .before .before .before .before .before .before .args .s .marks .ended) (c .before .before .before .before .before .before .before .before .before .before .before .before .before .args .i) false) (c .before .before .before .before .before .before .before .before .before .if1 .left), not-false (getD (c .before .before .before .before .before .before .before .before .before .before .before .before .before .args .s .config .signers) (c .before .before .before .before .before .before .before .before .before .before .before .before .before .args .i) noEntry .«has_keys») (c .before .before .before .before .before .if2 .left), ← c .before .before .before .share-keys .ensures, ← c .before .before .compare .ensures, not-false (c .before .before .compare .result .same) (c .if3 .left))
+returns-4 c =
+    let after-compare = c .before .before in
+    let after-share-keys = after-compare .before in
+    let else2 = after-share-keys .before .before in
+    let else1 = else2 .before .before .before .before in
+    let start = else1 .before .before .before .before in
+    rw (
+      not-false (getD (start .args .s .marks .ended) (start .args .i) false) (else1 .if1 .left),
+      not-false (getD (start .args .s .config .signers) (start .args .i) noEntry .«has_keys») (else2 .if2 .left),
+      ← after-share-keys .share-keys .ensures,
+      ← after-compare .compare .ensures,
+      not-false (after-compare .compare .result .same) (c .if3 .left),
+    )
 
 pub shares-verdict-spec : {M : Type 1} → statement M
 shares-verdict-spec =

@@ -24,17 +24,30 @@ is-same-type-requires c κs = search needs
 
 returns : tie.Need-returns
 unfolding typesAgree
-returns c = let x = c .before .before .args in sym (ap (λ (b : StateType). typesAgree (x .a) (x .a-root) b (x .b-root)) (c .enum-told .given .1))
+returns c =
+    let x = c .before .before .args in
+    sym (ap (λ (b : StateType). typesAgree (x .a) (x .a-root) b (x .b-root)) (c .enum-told .given .1))
 
 returns-2 : tie.Need-returns-2
 unfolding typesAgree
-returns-2 c = let x = c .before .before .before .before .before .args in
-    sym (ap₂ (λ (a b : StateType). typesAgree a (x .a-root) b (x .b-root)) (c .enum-told2 .given .1) (c .before .before .before .b .given .1))
+returns-2 c =
+    let after-b = c .before .before .before in
+    let start = after-b .before .before in
+    let x = start .args in
+    sym
+    (ap₂ (λ (a b : StateType). typesAgree a (x .a-root) b (x .b-root)) (c .enum-told2 .given .1)
+    (after-b .b .given .1))
 
 returns-3 : tie.Need-returns-3
 unfolding typesAgree
-returns-3 c = let x = c .before .before .before .before .before .before .before .args in
-    c .is-same-type .ensures ∙ sym (ap₂ (λ (a b : StateType). typesAgree a (x .a-root) b (x .b-root)) (c .before .before .a .given .1) (c .before .before .before .before .before .b .given .1))
+returns-3 c =
+    let after-b = c .before .before .before .before .before in
+    let start = after-b .before .before in
+    let x = start .args in
+    c .is-same-type .ensures
+    ∙ sym
+    (ap₂ (λ (a b : StateType). typesAgree a (x .a-root) b (x .b-root)) (c .before .before .a .given .1)
+    (after-b .b .given .1))
 
 pub are-types-same-spec : {M : Type 1} → statement M
 are-types-same-spec =

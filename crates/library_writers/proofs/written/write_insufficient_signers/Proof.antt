@@ -18,7 +18,11 @@ same-length : tie.Need-same-length
 same-length c = search needs
 
 returns : tie.Need-returns
-returns c = told (c .plain-of .ensures) (rw (c .before .before .before .before .before .signers .ensures) at (c .before .before .before .write-insufficient-signers .ensures))
+returns c =
+    let after-write-insufficient-signers = c .before .before .before in
+    let after-signers = after-write-insufficient-signers .before .before in
+    told (c .plain-of .ensures)
+    (rw (after-signers .signers .ensures) at (after-write-insufficient-signers .write-insufficient-signers .ensures))
 
 pub write-insufficient-signers-spec : {M : Type 1} → statement M
 write-insufficient-signers-spec =

@@ -28,7 +28,14 @@ same-length : tie.Need-same-length
 same-length c = search needs
 
 returns-2 : tie.Need-returns-2
-returns-2 c = told-typed (c .before .before .before .before .before .before .before .before .before .before .before .before .args .given .«signature_type») (c .before .before .before .before .before .before .before .if1 .left) (c .plain-of2 .ensures) (rw (c .before .before .before .before .before .before .head .ensures, c .before .before .before .before .before .job-places .ensures) at (c .before .before .before .write-job .ensures))
+returns-2 c =
+    let after-write-job = c .before .before .before in
+    let after-job-places = after-write-job .before .before in
+    let after-head = after-job-places .before in
+    let else1 = after-head .before in
+    let start = else1 .before .before .before .before .before in
+    told-typed (start .args .given .«signature_type») (else1 .if1 .left) (c .plain-of2 .ensures)
+    (rw (after-head .head .ensures, after-job-places .job-places .ensures) at (after-write-job .write-job .ensures))
 
 pub write-job-spec : {M : Type 1} → statement M
 write-job-spec =

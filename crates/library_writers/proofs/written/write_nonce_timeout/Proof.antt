@@ -21,7 +21,13 @@ same-length : tie.Need-same-length
 same-length c = search needs
 
 returns : tie.Need-returns
-returns c = told (c .plain-of .ensures) (rw (c .before .before .before .before .before .before .signers .ensures, c .before .before .before .before .before .signers2 .ensures) at (c .before .before .before .write-nonce-timeout .ensures))
+returns c =
+    let after-write-nonce-timeout = c .before .before .before in
+    let after-signers2 = after-write-nonce-timeout .before .before in
+    let after-signers = after-signers2 .before in
+    told (c .plain-of .ensures)
+    (rw (after-signers .signers .ensures, after-signers2 .signers2 .ensures) at
+    (after-write-nonce-timeout .write-nonce-timeout .ensures))
 
 pub write-nonce-timeout-spec : {M : Type 1} → statement M
 write-nonce-timeout-spec =

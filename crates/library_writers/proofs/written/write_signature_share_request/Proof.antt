@@ -28,7 +28,15 @@ same-length : tie.Need-same-length
 same-length c = search needs
 
 returns-2 : tie.Need-returns-2
-returns-2 c = told-typed (c .before .before .before .before .before .before .before .before .before .before .before .before .args .given .«signature_type») (c .before .before .before .before .before .before .before .if1 .left) (c .plain-of2 .ensures) (rw (c .before .before .before .before .before .before .head .ensures, c .before .before .before .before .before .responses .ensures) at (c .before .before .before .write-signature-share-request .ensures))
+returns-2 c =
+    let after-write-signature-share-request = c .before .before .before in
+    let after-responses = after-write-signature-share-request .before .before in
+    let after-head = after-responses .before in
+    let else1 = after-head .before in
+    let start = else1 .before .before .before .before .before in
+    told-typed (start .args .given .«signature_type») (else1 .if1 .left) (c .plain-of2 .ensures)
+    (rw (after-head .head .ensures, after-responses .responses .ensures) at
+    (after-write-signature-share-request .write-signature-share-request .ensures))
 
 pub write-signature-share-request-spec : {M : Type 1} → statement M
 write-signature-share-request-spec =

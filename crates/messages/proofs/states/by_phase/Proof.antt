@@ -38,7 +38,11 @@ same-length : tie.Need-same-length
 same-length c = search needs
 
 returns : tie.Need-returns
-returns c = idling-did _ _ _ _ (is-idling _ (sym (c .before .before .before .before .before .before .phase-of .ensures) ∙ c .before .before .before .before .enum-told .given .1)) (c .before .before .idle .ensures _)
+returns c =
+    let after-enum-told = c .before .before .before .before in
+    let after-phase-of = after-enum-told .before .before in
+    idling-did _ _ _ _ (is-idling _ (sym (after-phase-of .phase-of .ensures) ∙ after-enum-told .enum-told .given .1))
+    (c .before .before .idle .ensures _)
 
 same-length-2 : tie.Need-same-length-2
 same-length-2 c = search needs
@@ -47,7 +51,12 @@ same-length-3 : tie.Need-same-length-3
 same-length-3 c = search needs
 
 returns-2 : tie.Need-returns-2
-returns-2 c = nonces-did _ _ _ _ _ (is-nonces _ _ (sym (c .before .before .before .before .before .before .before .before .before .before .phase-of .ensures) ∙ c .before .before .before .before .before .before .before .before .phase .given .1)) (c .before .before .before .before .in-nonce-gather .ensures)
+returns-2 c =
+    let after-in-nonce-gather = c .before .before .before .before in
+    let after-phase = after-in-nonce-gather .before .before .before .before in
+    let after-phase-of = after-phase .before .before in
+    nonces-did _ _ _ _ _ (is-nonces _ _ (sym (after-phase-of .phase-of .ensures) ∙ after-phase .phase .given .1))
+    (after-in-nonce-gather .in-nonce-gather .ensures)
 
 same-length-4 : tie.Need-same-length-4
 same-length-4 c = search needs
@@ -56,10 +65,18 @@ same-length-5 : tie.Need-same-length-5
 same-length-5 c = search needs
 
 returns-3 : tie.Need-returns-3
-returns-3 c = shared-did _ _ _ _ _ (is-shares _ _ (sym (c .before .before .before .before .before .before .before .before .before .before .phase-of .ensures) ∙ c .before .before .before .before .before .before .before .before .phase2 .given .1)) (c .before .before .before .before .in-share-gather .ensures)
+returns-3 c =
+    let after-in-share-gather = c .before .before .before .before in
+    let after-phase2 = after-in-share-gather .before .before .before .before in
+    let after-phase-of = after-phase2 .before .before in
+    shared-did _ _ _ _ _ (is-shares _ _ (sym (after-phase-of .phase-of .ensures) ∙ after-phase2 .phase2 .given .1))
+    (after-in-share-gather .in-share-gather .ensures)
 
 returns-4 : tie.Need-returns-4
-returns-4 c = resting-did _ _ _ _ (is-resting _ (sym (c .before .before .before .phase-of .ensures) ∙ c .before .enum-told2 .given .1)) (c .quiet .ensures)
+returns-4 c =
+    let after-phase-of = c .before .before .before in
+    resting-did _ _ _ _ (is-resting _ (sym (after-phase-of .phase-of .ensures) ∙ c .before .enum-told2 .given .1))
+    (c .quiet .ensures)
 
 pub by-phase-spec : {M : Type 1} → statement M
 by-phase-spec =

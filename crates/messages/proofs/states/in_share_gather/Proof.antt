@@ -10,7 +10,9 @@ quiet-requires : tie.Need-quiet-requires
 quiet-requires c κs = search needs
 
 returns : tie.Need-returns
-returns c = no-shares-did 0 _ _ _ _ _ (c .before .before .before .before .before .before .pre .header) (c .before .if1 .taken) (c .quiet .ensures)
+returns c =
+    let start = c .before .before .before .before .before .before in
+    no-shares-did 0 _ _ _ _ _ (start .pre .header) (c .before .if1 .taken) (c .quiet .ensures)
 
 gather-shares-requires : tie.Need-gather-shares-requires
 gather-shares-requires c κs = shareable (c .before .before .before .before .before .before .before .pre) (c .before .before .if1 .left)
@@ -22,7 +24,11 @@ same-length-2 : tie.Need-same-length-2
 same-length-2 c = search needs
 
 returns-2 : tie.Need-returns-2
-returns-2 c = shares-did 0 _ _ _ _ _ (c .before .before .before .before .before .before .before .before .before .before .before .before .pre .header) _ _ (c .before .before .before .before .before .before .before .if1 .left) (c .before .before .before .before .gather-shares .ensures)
+returns-2 c =
+    let after-gather-shares = c .before .before .before .before in
+    let else1 = after-gather-shares .before .before .before in
+    let start = else1 .before .before .before .before .before in
+    shares-did 0 _ _ _ _ _ (start .pre .header) _ _ (else1 .if1 .left) (after-gather-shares .gather-shares .ensures)
 
 pub in-share-gather-spec : {M : Type 1} → statement M
 in-share-gather-spec =

@@ -22,7 +22,11 @@ by-phase-requires : tie.Need-by-phase-requires
 by-phase-requires c κs = search needs
 
 returns : tie.Need-returns
-returns c = unverified-did _ _ _ _ _ _ (c .before .before .before .before .before .before .before .before .pre .header) _ (c .before .before .before .before .verified .ensures) _ (c .before .before .passed .given .1) (c .refused .ensures)
+returns c =
+    let after-verified = c .before .before .before .before in
+    let start = after-verified .before .before .before .before in
+    unverified-did _ _ _ _ _ _ (start .pre .header) _ (after-verified .verified .ensures) _
+    (c .before .before .passed .given .1) (c .refused .ensures)
 
 same-length : tie.Need-same-length
 same-length c = search needs
@@ -31,7 +35,13 @@ same-length-2 : tie.Need-same-length-2
 same-length-2 c = search needs
 
 returns-2 : tie.Need-returns-2
-returns-2 c = verified-did _ _ _ _ _ _ (c .before .before .before .before .before .before .before .before .before .before .before .before .before .pre .header) _ (c .before .before .before .before .before .before .before .before .before .verified .ensures) _ _ (c .before .before .before .before .before .before .before .enum-told .given .1) (c .before .before .before .before .by-phase .ensures)
+returns-2 c =
+    let after-by-phase = c .before .before .before .before in
+    let after-enum-told = after-by-phase .before .before .before in
+    let after-verified = after-enum-told .before .before in
+    let start = after-verified .before .before .before .before in
+    verified-did _ _ _ _ _ _ (start .pre .header) _ (after-verified .verified .ensures) _ _
+    (after-enum-told .enum-told .given .1) (after-by-phase .by-phase .ensures)
 
 pub on-message-spec : {M : Type 1} → statement M
 on-message-spec =

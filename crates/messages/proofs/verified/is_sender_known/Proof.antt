@@ -26,11 +26,25 @@ enum-told-2 c = search needs
 
 returns-2 : tie.Need-returns-2
 unfolding senderKnown
-returns-2 c = rw (← c .before .before .before .before .is-signer-kind .ensures, not-false (c .before .before .before .before .is-signer-kind .result) (c .before .before .before .if1 .left), answer-some _ _ (sym (c .before .before .slot-of .ensures) ∙ c .enum-told .given .1))
+returns-2 c =
+    let else1 = c .before .before .before in
+    let after-is-signer-kind = else1 .before in
+    rw (
+      ← after-is-signer-kind .is-signer-kind .ensures,
+      not-false (after-is-signer-kind .is-signer-kind .result) (else1 .if1 .left),
+      answer-some _ _ (sym (c .before .before .slot-of .ensures) ∙ c .enum-told .given .1),
+    )
 
 returns-3 : tie.Need-returns-3
 unfolding senderKnown
-returns-3 c = rw (← c .before .before .before .before .is-signer-kind .ensures, not-false (c .before .before .before .before .is-signer-kind .result) (c .before .before .before .if1 .left), answer-none _ (sym (c .before .before .slot-of .ensures) ∙ c .enum-told2 .given .1))
+returns-3 c =
+    let else1 = c .before .before .before in
+    let after-is-signer-kind = else1 .before in
+    rw (
+      ← after-is-signer-kind .is-signer-kind .ensures,
+      not-false (after-is-signer-kind .is-signer-kind .result) (else1 .if1 .left),
+      answer-none _ (sym (c .before .before .slot-of .ensures) ∙ c .enum-told2 .given .1),
+    )
 
 pub is-sender-known-spec : {M : Type 1} → statement M
 is-sender-known-spec =

@@ -16,13 +16,24 @@ is-sender-known-requires : tie.Need-is-sender-known-requires
 is-sender-known-requires c κs = search needs
 
 returns-3 : tie.Need-returns-3
-returns-3 c = asked-14 _ _ _ (not-false _ (c .before .before .before .before .before .if1 .left)) (not-false _ (c .before .before .if2 .left)) _ (c .before .is-sender-known .ensures) (not-true _ (c .if3 .taken))
+returns-3 c =
+    let else1 = c .before .before .before .before .before in
+    asked-14 _ _ _ (not-false _ (else1 .if1 .left)) (not-false _ (c .before .before .if2 .left)) _
+    (c .before .is-sender-known .ensures) (not-true _ (c .if3 .taken))
 
 returns-4 : tie.Need-returns-4
-returns-4 c = seal-14 _ _ _ (not-false _ (c .before .before .before .before .before .before .if1 .left)) (not-false _ (c .before .before .before .if2 .left)) _ (c .before .before .is-sender-known .ensures) (not-false _ (c .before .if3 .left)) (not-true _ (c .if4 .taken))
+returns-4 c =
+    let else2 = c .before .before .before in
+    let else1 = else2 .before .before .before in
+    seal-14 _ _ _ (not-false _ (else1 .if1 .left)) (not-false _ (else2 .if2 .left)) _
+    (c .before .before .is-sender-known .ensures) (not-false _ (c .before .if3 .left)) (not-true _ (c .if4 .taken))
 
 returns-5 : tie.Need-returns-5
-returns-5 c = all-asked _ _ _ (not-false _ (c .before .before .before .before .before .before .if1 .left)) (not-false _ (c .before .before .before .if2 .left)) _ (c .before .before .is-sender-known .ensures) (not-false _ (c .before .if3 .left)) (not-false _ (c .if4 .left))
+returns-5 c =
+    let else2 = c .before .before .before in
+    let else1 = else2 .before .before .before in
+    all-asked _ _ _ (not-false _ (else1 .if1 .left)) (not-false _ (else2 .if2 .left)) _
+    (c .before .before .is-sender-known .ensures) (not-false _ (c .before .if3 .left)) (not-false _ (c .if4 .left))
 
 pub verified-spec : {M : Type 1} → statement M
 verified-spec =

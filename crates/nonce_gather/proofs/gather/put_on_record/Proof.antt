@@ -8,10 +8,16 @@ use Rattle.nonce_gather.proofs.gather.put_on_record.Statement.{statemen
 use Rattle.nonce_gather.proofs.gather.put_on_record.Tie as tie
 
 add-requires : tie.Need-add-requires
-add-requires c κs = placed (c .before .before .before .before .before .before .before .pre .0) _ _ _ _ (shape _ _ (c .before .before .before .before .before .before .before .good .0)) (c .before .before .before .before .before .before .before .pre .1)
+add-requires c κs =
+    let start = c .before .before .before .before .before .before .before in
+    placed (start .pre .0) _ _ _ _ (shape _ _ (start .good .0)) (start .pre .1)
 
 on-record-requires : tie.Need-on-record-requires
-on-record-requires c κs = rw (c .before .before .before .before .add .ensures .0, c .before .before .before .before .add .ensures .1) (recorded (c .before .before .before .before .before .before .before .before .before .before .before .before .pre .0) _ _ _ _ (shape _ _ (c .before .before .before .before .before .before .before .before .before .before .before .before .good .0)) (c .before .before .before .before .before .before .before .before .before .before .before .before .pre .1))
+on-record-requires c κs =
+    let after-add = c .before .before .before .before in
+    let start = after-add .before .before .before .before .before .before .before .before in
+    rw (after-add .add .ensures .0, after-add .add .ensures .1)
+    (recorded (start .pre .0) _ _ _ _ (shape _ _ (start .good .0)) (start .pre .1))
 
 same-length : tie.Need-same-length
 same-length c = search needs
@@ -21,7 +27,9 @@ same-length-2 c = search needs
 
 returns : tie.Need-returns
 unfolding recordedTurn
-returns c = rw (← c .before .before .before .before .before .before .before .add .ensures .0, ← c .before .before .before .before .before .before .before .add .ensures .1) (c .before .before .on-record .ensures)
+returns c =
+    let after-add = c .before .before .before .before .before .before .before in
+    rw (← after-add .add .ensures .0, ← after-add .add .ensures .1) (c .before .before .on-record .ensures)
 
 pub put-on-record-spec : {M : Type 1} → statement M
 put-on-record-spec =

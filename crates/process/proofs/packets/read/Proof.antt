@@ -75,9 +75,11 @@ reading τ₀ τ₁ τ₇ = record {
   outlives = [];
   params = 7;
   locals =
-      local τ₀ valueLocal ∷ local τ₁ valueLocal ∷ local (mutSliceAt (named 0)) valueLocal ∷ local (mutSliceAt (named 1)) valueLocal ∷ local (tyInt w64) valueLocal
+      local τ₀ valueLocal ∷ local τ₁ valueLocal ∷ local (mutSliceAt (named 0)) valueLocal
+      ∷ local (mutSliceAt (named 1)) valueLocal ∷ local (tyInt w64) valueLocal
       ∷ local tyBool valueLocal ∷ local (sliceAt (named 2)) valueLocal ∷ local τ₇ valueLocal ∷ local (O′.mir erased) valueLocal
-      ∷ local (tyRef erased mut (tyInt w8)) valueLocal ∷ local (mutSliceAt erased) valueLocal ∷ local (tyRef erased mut (tyInt w8)) valueLocal ∷ local (mutSliceAt erased) valueLocal
+      ∷ local (tyRef erased mut (tyInt w8)) valueLocal ∷ local (mutSliceAt erased) valueLocal
+      ∷ local (tyRef erased mut (tyInt w8)) valueLocal ∷ local (mutSliceAt erased) valueLocal
       ∷ local (O′.mir erased) valueLocal ∷ [];
   body =
       seq (call open-def.name (copy (place 6 []) ∷ []) (place 8 []))
@@ -86,7 +88,8 @@ reading τ₀ τ₁ τ₇ = record {
       (seq (assign (place 11 []) (addrOf (place 3 (field 0 ∷ deref (tyInt w8) ∷ []))))
       (seq (assign (place 12 []) (aggregate (copy (place 11 []) ∷ copy (place 3 (field 1 ∷ [])) ∷ [])))
       (seq (assign (place 13 []) (rvOpd (copy (place 8 []))))
-      (seq (call deliver-def.name (copy (place 1 []) ∷ copy (place 10 []) ∷ copy (place 12 []) ∷ copy (place 4 []) ∷ copy (place 5 []) ∷ copy (place 13 []) ∷ copy (place 7 []) ∷ []) (place 0 []))
+      (seq (call deliver-def.name (copy (place 1 []) ∷ copy (place 10 []) ∷ copy (place 12 []) ∷ copy (place 4 [])
+      ∷ copy (place 5 []) ∷ copy (place 13 []) ∷ copy (place 7 []) ∷ []) (place 0 []))
       return))))));
 }
 
@@ -140,7 +143,16 @@ module _ {M : Type 1} (𝓤 : URA M) (H : Heap 𝓤) (A : Atoms 𝓤) (W : Given
   args = (s, (store, (out, (clock, (verdict, (b, (e, tt)))))))
 
   abbrev vals : Vals read.signature κs
-  vals = (coordinatorVal s ∷ [], (sv store ∷ [], (sv out ∷ [], (vint w64 clock ∷ [], (vbool verdict ∷ [], (sv b ∷ [], (entryVal e ∷ [], tt)))))))
+  vals = (
+    coordinatorVal s ∷ [],
+    (
+      sv store ∷ [],
+      (
+        sv out ∷ [],
+        (vint w64 clock ∷ [], (vbool verdict ∷ [], (sv b ∷ [], (entryVal e ∷ [], tt)))),
+      ),
+    ),
+  )
 
   abbrev Post : Val → SProp 𝓤
   Post = walkOf 𝓤 H A read.ended stayed (read.clauses 𝓤 H A mem run) .post ((κs, qs, tt, args, vals), tt)
@@ -182,7 +194,8 @@ module _ {M : Type 1} (𝓤 : URA M) (H : Heap 𝓤) (A : Atoms 𝓤) (W : Given
   Kept = fsep OwnS (fsep OwnB OwnE)
 
   abbrev Rows : List RattleType
-  Rows = C.the-row ∷ MutSlice (named 0) (κs .0) u8 ∷ MutSlice (named 1) (κs .1 .0) u8 ∷ u64 ∷ bool ∷ ShrSlice (named 2) (κs .1 .1 .0) u8 ∷ E.the-row ∷ []
+  Rows = C.the-row ∷ MutSlice (named 0) (κs .0) u8 ∷ MutSlice (named 1) (κs .1 .0) u8 ∷ u64 ∷ bool
+      ∷ ShrSlice (named 2) (κs .1 .1 .0) u8 ∷ E.the-row ∷ []
 
   -- the call of `open`
   abbrev to-open : Open 𝓤 H A mem run .Ghost
@@ -191,14 +204,20 @@ module _ {M : Type 1} (𝓤 : URA M) (H : Heap 𝓤) (A : Atoms 𝓤) (W : Given
   goes-open : ent 𝓤 (onEntry 𝓤 H A read.signature κs qs args vals) (sep 𝓤 (Open 𝓤 H A mem run .pre to-open) (sem 𝓤 H A Rest))
   goes-open =
       qed W (Toks ∷ ‵ (owns Rows args vals) ∷ []) ∵ split ! $ move ! (1 ∷ []) $ split ! $ move ! (3 ∷ []) $
-      fsplit ! $ move ! (1 ∷ []) $ fsplit ! $ move ! (1 ∷ []) $ fsplit ! $ move ! (1 ∷ []) $ fsplit ! $ drop ! $ fsplit ! $ drop ! $ fsplit ! $ move ! (1 ∷ []) $ fsplit ! $
+      fsplit ! $ move ! (1 ∷ []) $ fsplit ! $ move ! (1 ∷ []) $ fsplit ! $ move ! (1 ∷ []) $ fsplit ! $ drop ! $
+      fsplit ! $ drop ! $ fsplit ! $ move ! (1 ∷ []) $ fsplit ! $
       -- [entry; true; bytes; out; store; s; the second token; the last; the first]
-      move ! (2 ∷ []) $ use1 W (‵ OwnB ⊛ ‵ OwnB) (shr-slice-copy 𝓤 H A W (named 2) (κs .1 .1 .0) u8 .twice b (sv b ∷ [])) $ split ! $ move ! (0 ∷ 3 ∷ []) $ fjoin ! $
-      move ! (7 ∷ 0 ∷ []) $ use2 W (raw (Open 𝓤 H A mem run .pre to-open)) (qed W (Last ∷ ‵ (owns (ShrSlice (named 0) (κs .1 .1 .0) u8 ∷ []) (b, tt) (sv b ∷ [], tt)) ∷ []) ∵ join ! $ frame ! $ done !) $ frame ! $
+      move ! (2 ∷ []) $ use1 W (‵ OwnB ⊛ ‵ OwnB)
+      (shr-slice-copy 𝓤 H A W (named 2) (κs .1 .1 .0) u8 .twice b (sv b ∷ [])) $ split ! $ move ! (0 ∷ 3 ∷ []) $ fjoin ! $
+      move ! (7 ∷ 0 ∷ []) $ use2 W (raw (Open 𝓤 H A mem run .pre to-open))
+      (qed W (Last ∷ ‵ (owns (ShrSlice (named 0) (κs .1 .1 .0) u8 ∷ []) (b, tt) (sv b ∷ [], tt)) ∷ []) ∵ join ! $
+      frame ! $ done !) $ frame ! $
       -- [bytes; entry; out; store; s; the second token; the first]
-      fjoin ! $ move ! (1 ∷ 0 ∷ []) $ fjoin ! $ move ! (1 ∷ 0 ∷ []) $ fjoin ! $ move ! (1 ∷ 0 ∷ []) $ fjoin ! $ move ! (1 ∷ 0 ∷ []) $ fjoin ! $ move ! (1 ∷ 0 ∷ []) $ fjoin ! $ done !
+      fjoin ! $ move ! (1 ∷ 0 ∷ []) $ fjoin ! $ move ! (1 ∷ 0 ∷ []) $ fjoin ! $ move ! (1 ∷ 0 ∷ []) $ fjoin ! $
+      move ! (1 ∷ 0 ∷ []) $ fjoin ! $ move ! (1 ∷ 0 ∷ []) $ fjoin ! $ done !
 
-  open-said : (o : Opened) → ent 𝓤 (ensured 𝓤 H A open-fn.ended (open-fn.clauses 𝓤 H A mem run) (κs .1 .1 .0, tt) (b, tt) tt o) (fact 𝓤 (o ≡ opened b))
+  open-said : (o : Opened) → ent 𝓤 (ensured 𝓤 H A open-fn.ended (open-fn.clauses 𝓤 H A mem run) (κs .1 .1 .0, tt)
+      (b, tt) tt o) (fact 𝓤 (o ≡ opened b))
   open-said o = exE 𝓤 _ (λ ws. snd∗ 𝓤 (sem 𝓤 H A (lasts open-fn.ended (κs .1 .1 .0, tt) (b, tt) ws)) (fact 𝓤 (o ≡ opened b)))
 
   module _ (o : Opened) (u : Val) where
@@ -207,7 +226,16 @@ module _ {M : Type 1} (𝓤 : URA M) (H : Heap 𝓤) (A : Atoms 𝓤) (W : Given
     given-args = (s, (store, (out, (clock, (verdict, (o, (e, tt)))))))
 
     abbrev passed : Vals deliver.signature κs
-    passed = (coordinatorVal s ∷ [], (sv store ∷ [], (sv out ∷ [], (vint w64 clock ∷ [], (vbool verdict ∷ [], (u ∷ [], (entryVal e ∷ [], tt)))))))
+    passed = (
+      coordinatorVal s ∷ [],
+      (
+        sv store ∷ [],
+        (
+          sv out ∷ [],
+          (vint w64 clock ∷ [], (vbool verdict ∷ [], (u ∷ [], (entryVal e ∷ [], tt)))),
+        ),
+      ),
+    )
 
     abbrev to : Deliver 𝓤 H A mem run .Ghost
     to = ((κs, qs, tt, given-args, passed), tt)
@@ -223,30 +251,38 @@ module _ {M : Type 1} (𝓤 : URA M) (H : Heap 𝓤) (A : Atoms 𝓤) (W : Given
 
     goes-deliver : Asked → ent 𝓤 (⋆ 𝓤 H A (‵ OwnO ∷ Last ∷ ‵ Rest ∷ [])) (sep 𝓤 (Deliver 𝓤 H A mem run .pre to) (sem 𝓤 H A Kept))
     goes-deliver r =
-        qed W (‵ OwnO ∷ Last ∷ ‵ Rest ∷ []) ∵ move ! (2 ∷ []) $ fsplit ! $ move ! (1 ∷ []) $ fsplit ! $ move ! (1 ∷ []) $ fsplit ! $ move ! (1 ∷ []) $ fsplit ! $ move ! (1 ∷ []) $ fsplit ! $ move ! (1 ∷ []) $ fsplit ! $
+        qed W (‵ OwnO ∷ Last ∷ ‵ Rest ∷ []) ∵ move ! (2 ∷ []) $ fsplit ! $ move ! (1 ∷ []) $ fsplit ! $
+        move ! (1 ∷ []) $ fsplit ! $ move ! (1 ∷ []) $ fsplit ! $ move ! (1 ∷ []) $ fsplit ! $ move ! (1 ∷ []) $ fsplit ! $
         -- [bytes; entry; out; store; s; the second token; the first; opened; the last token]
-        move ! (1 ∷ []) $ use1 W (‵ OwnE ⊛ ‵ OwnE) (entry-copy 𝓤 H A W .twice e (entryVal e ∷ [])) $ split ! $ nothing ! $ move ! (1 ∷ 0 ∷ []) $ fjoin ! $ move ! (8 ∷ 0 ∷ []) $ fjoin ! $
-        owned ! bool (Is bool) (bool-makes 𝓤 H A W) verdict _ refl $ fjoin ! $ owned ! u64 (Is u64) (uint-makes 𝓤 H A W w64) clock _ (refl, clock-fits) $ fjoin ! $
+        move ! (1 ∷ []) $ use1 W (‵ OwnE ⊛ ‵ OwnE) (entry-copy 𝓤 H A W .twice e (entryVal e ∷ [])) $ split ! $
+        nothing ! $ move ! (1 ∷ 0 ∷ []) $ fjoin ! $ move ! (8 ∷ 0 ∷ []) $ fjoin ! $
+        owned ! bool (Is bool) (bool-makes 𝓤 H A W) verdict _ refl $ fjoin ! $
+        owned ! u64 (Is u64) (uint-makes 𝓤 H A W w64) clock _ (refl, clock-fits) $ fjoin ! $
         -- [what is passed after the slices; entry; bytes; out; store; s; the second token; the first; the last]
         move ! (3 ∷ 0 ∷ []) $ fjoin ! $ move ! (3 ∷ 0 ∷ []) $ fjoin ! $
-        move ! (3 ∷ []) $ use1 W (‵ OwnS ⊛ ‵ OwnS) (coordinator-copy 𝓤 H A W .twice s (coordinatorVal s ∷ [])) $ split ! $ move ! (0 ∷ 2 ∷ []) $ fjoin ! $
+        move ! (3 ∷ []) $ use1 W (‵ OwnS ⊛ ‵ OwnS) (coordinator-copy 𝓤 H A W .twice s (coordinatorVal s ∷ [])) $
+        split ! $ move ! (0 ∷ 2 ∷ []) $ fjoin ! $
         -- [all that is passed; s; entry; bytes; the second token; the first; the last]
         move ! (4 ∷ 6 ∷ []) $ join ! $ move ! (5 ∷ 0 ∷ []) $ join ! $
-        use2 W (raw (Deliver 𝓤 H A mem run .pre to)) (qed W (Toks ∷ ‵ (owns Given-rows given-args passed) ∷ []) ∵ says ! r $ frame ! $ done !) $ frame ! $
+        use2 W (raw (Deliver 𝓤 H A mem run .pre to))
+        (qed W (Toks ∷ ‵ (owns Given-rows given-args passed) ∷ []) ∵ says ! r $ frame ! $ done !) $ frame ! $
         move ! (2 ∷ 1 ∷ []) $ fjoin ! $ move ! (1 ∷ 0 ∷ []) $ fjoin ! $ done !
 
   abbrev Done-did : RefT (List ℕ) → Done → List ℕ → List ℕ → Type 0
   Done-did p d store′ out′ = Did (readTurn e clock verdict (now p) s (now store)) (now out) d store′ out′
 
   exits : (d : Done) (u : Val) (ys zs : List ℕ) → Done-did b d ys zs → length ys ≡ length (now store) → length zs ≡ length (now out)
-      → ent 𝓤 (⋆ 𝓤 H A (‵ (Dn.the-row .own d (u ∷ [])) ∷ Toks ∷ ‵ (finally u8 (out .name) zs) ∷ ‵ (finally u8 (store .name) ys) ∷ ‵ Kept ∷ [])) (Post u)
+      → ent 𝓤 (⋆ 𝓤 H A (‵ (Dn.the-row .own d (u ∷ [])) ∷ Toks ∷ ‵ (finally u8 (out .name) zs)
+      ∷ ‵ (finally u8 (store .name) ys) ∷ ‵ Kept ∷ [])) (Post u)
   exits d u ys zs did lₛ lₒ =
       qed W (‵ (Dn.the-row .own d (u ∷ [])) ∷ Toks ∷ ‵ (finally u8 (out .name) zs) ∷ ‵ (finally u8 (store .name) ys) ∷ ‵ Kept ∷ []) ∵
-      suffices ! _ (ends-at 𝓤 H A read.ended stayed (read.clauses 𝓤 H A mem run) W ((κs, qs, tt, args, vals), tt) u d (tt, (ys, (zs, (tt, (tt, (tt, (tt, tt))))))) (tt, (lₛ, (lₒ, (tt, (tt, (tt, (tt, tt)))))))) $ says ! did $
+      suffices ! _ (ends-at 𝓤 H A read.ended stayed (read.clauses 𝓤 H A mem run) W ((κs, qs, tt, args, vals), tt) u d
+      (tt, (ys, (zs, (tt, (tt, (tt, (tt, tt))))))) (tt, (lₛ, (lₒ, (tt, (tt, (tt, (tt, tt)))))))) $ says ! did $
       move ! (1 ∷ []) $ frame ! $ move ! (3 ∷ []) $ fsplit ! $ move ! (1 ∷ []) $ fsplit ! $
       -- [bytes; entry; s; the result; out; store]
       nothing ! $ move ! (2 ∷ 0 ∷ []) $ fjoin ! $ move ! (1 ∷ 0 ∷ []) $ fjoin ! $
-      owned ! bool (Is bool) (bool-makes 𝓤 H A W) verdict _ refl $ fjoin ! $ owned ! u64 (Is u64) (uint-makes 𝓤 H A W w64) clock _ (refl, clock-fits) $ fjoin ! $
+      owned ! bool (Is bool) (bool-makes 𝓤 H A W) verdict _ refl $ fjoin ! $
+      owned ! u64 (Is u64) (uint-makes 𝓤 H A W w64) clock _ (refl, clock-fits) $ fjoin ! $
       move ! (3 ∷ 0 ∷ []) $ fjoin ! $ move ! (3 ∷ 0 ∷ []) $ fjoin ! $ move ! (1 ∷ 0 ∷ []) $ fjoin ! $ frame ! $ done !
 
   -- the struct's type as a local of a body has it
@@ -255,51 +291,110 @@ module _ {M : Type 1} (𝓤 : URA M) (H : Heap 𝓤) (A : Atoms 𝓤) (W : Given
 
   module _ (C₀ : Calls 𝓤 H) (Λ : Loops 𝓤 H) (fm : FmC 𝓤 H (W .laws) C₀) (known-open : Triple 𝓤 (C₀ open-def.name) (Open 𝓤 H A mem run)) (known-deliver : Triple 𝓤 (C₀ deliver-def.name) (Deliver 𝓤 H A mem run)) (τ₀ τ₁ τ₇ : Ty) where
     walk : PacketReady s (now store) (length (now out)) → Holds (hasTy τ₁ (coordinatorVal s)) × WT (coordinatorVal s) → Is (MutSlice (named 0) (κs .0) u8) store (sv store ∷ []) → Is (MutSlice (named 1) (κs .1 .0) u8) out (sv out ∷ [])
-        → Is (ShrSlice (named 2) (κs .1 .1 .0) u8) b (sv b ∷ []) → Holds (hasTy τ₇ (entryVal e)) × WT (entryVal e) → ((d : Done) (v : Val) → Is Dn.the-row d (v ∷ []) → Holds (hasTy τ₀ v) × WT v)
-        → ent 𝓤 (onEntry 𝓤 H A read.signature κs qs args vals) (WpFn 𝓤 H C₀ Λ (reading τ₀ τ₁ τ₇) (coordinatorVal s ∷ sv store ∷ sv out ∷ vint w64 clock ∷ vbool verdict ∷ sv b ∷ entryVal e ∷ []) Post)
+        → Is (ShrSlice (named 2) (κs .1 .1 .0) u8) b (sv b ∷ []) → Holds (hasTy τ₇ (entryVal e)) × WT (entryVal e)
+        → ((d : Done) (v : Val) → Is Dn.the-row d (v ∷ []) → Holds (hasTy τ₀ v) × WT v)
+        → ent 𝓤 (onEntry 𝓤 H A read.signature κs qs args vals)
+        (WpFn 𝓤 H C₀ Λ (reading τ₀ τ₁ τ₇) (coordinatorVal s ∷ sv store ∷ sv out ∷ vint w64 clock ∷ vbool verdict
+        ∷ sv b ∷ entryVal e ∷ []) Post)
     walk r typed-s is-store is-out is-b typed-e typed-d =
-        qed W (raw (onEntry 𝓤 H A read.signature κs qs args vals) ∷ []) ∵ enter ! C₀ Λ (reading τ₀ τ₁ τ₇) (coordinatorVal s ∷ sv store ∷ sv out ∷ vint w64 clock ∷ vbool verdict ∷ sv b ∷ entryVal e ∷ []) _ $
+        qed W (raw (onEntry 𝓤 H A read.signature κs qs args vals) ∷ []) ∵ enter ! C₀ Λ (reading τ₀ τ₁ τ₇)
+        (coordinatorVal s ∷ sv store ∷ sv out ∷ vint w64 clock ∷ vbool verdict ∷ sv b ∷ entryVal e ∷ []) _ $
         alloc1 ! (λ m₀. alloc1 ! (λ m₁. alloc1 ! (λ m₂. alloc1 ! (λ m₃. alloc1 ! (λ m₄. alloc1 ! (λ m₅. alloc1 ! (λ m₆. alloc1 ! (λ m₇. alloc1 ! (λ m₈. alloc1 ! (λ m₉. alloc1 ! (λ m₁₀. alloc1 ! (λ m₁₁. alloc1 ! (λ m₁₂. alloc1 ! (λ m₁₃. alloc0 ! $ params1 ! $
-        pass1 ! (init ! 24 refl typed-s) $ pass1 ! (init ! 22 refl (mut-slice-lawful 𝓤 H A W (named 0) (κs .0) u8 .typed store _ is-store .0)) $ pass1 ! (init ! 20 refl (mut-slice-lawful 𝓤 H A W (named 1) (κs .1 .0) u8 .typed out _ is-out .0)) $
-        pass1 ! (init ! 18 refl (tt, record { fits = clock-fits })) $ pass1 ! (init ! 16 refl (tt, tt)) $ pass1 ! (init ! 14 refl (shr-slice-lawful 𝓤 H A W (named 2) (κs .1 .1 .0) u8 .typed b _ is-b .0)) $ pass1 ! (init ! 12 refl typed-e) $ pass0 ! $
+        pass1 ! (init ! 24 refl typed-s) $ pass1 ! (init ! 22 refl
+        (mut-slice-lawful 𝓤 H A W (named 0) (κs .0) u8 .typed store _ is-store .0)) $
+        pass1 ! (init ! 20 refl (mut-slice-lawful 𝓤 H A W (named 1) (κs .1 .0) u8 .typed out _ is-out .0)) $
+        pass1 ! (init ! 18 refl (tt, record { fits = clock-fits })) $ pass1 ! (init ! 16 refl (tt, tt)) $
+        pass1 ! (init ! 14 refl (shr-slice-lawful 𝓤 H A W (named 2) (κs .1 .1 .0) u8 .typed b _ is-b .0)) $
+        pass1 ! (init ! 12 refl typed-e) $ pass0 ! $
         move ! (28 ∷ []) $ use1 W (raw (Open 𝓤 H A mem run .pre to-open) ⊛ ‵ Rest) goes-open $ split ! $
         calls-at ! fm (Open 𝓤 H A mem run) known-open to-open (and-then ! (load ! (from ! (stop !)) (look ! 16 refl)) (no-more !)) (λ u.
-        use1 W (later (some (λ (o : Opened). (Last ⊛ ‵ (OwnO o u)) ⊛ raw (ensured 𝓤 H A open-fn.ended (open-fn.clauses 𝓤 H A mem run) (κs .1 .1 .0, tt) (b, tt) tt o)))) (id⊢ 𝓤 _) $ await ! tt $ pick ! (λ o.
-        split ! $ move ! (1 ∷ []) $ use1 W (raw (fact 𝓤 (o ≡ opened b))) (open-said o) $ heard ! (o ≡ opened b) (λ eₒ. split ! $ move ! (1 ∷ []) $
+        use1 W (later (some (λ (o : Opened). (Last ⊛ ‵ (OwnO o u))
+        ⊛ raw (ensured 𝓤 H A open-fn.ended (open-fn.clauses 𝓤 H A mem run) (κs .1 .1 .0, tt) (b, tt) tt o))))
+        (id⊢ 𝓤 _) $ await ! tt $ pick ! (λ o.
+        split ! $ move ! (1 ∷ []) $ use1 W (raw (fact 𝓤 (o ≡ opened b))) (open-said o) $
+        heard ! (o ≡ opened b) (λ eₒ. split ! $ move ! (1 ∷ []) $
         -- [the packet in hand; the last token; what is kept; the locals, the last first]
         peeks ! (O.the-row α) (Is (O.the-row α)) (shows 𝓤 H A (O.the-row α)) o (u ∷ []) (λ is.
         land ! (from ! (stop !)) (init ! 13 refl (LL.lawful (O.the-type αᵉ) (O′.the-laws αᵉ) 𝓤 H A W .typed o _ is .0)) $
-        assigns ! (addr ! (from ! (fld ! refl (hop ! (look-in ! 25 (sub ! 0 refl (whole !))) (stop !))))) (from ! (stop !)) (init ! 11 refl (tt, tt)) $
-        assigns ! (agg ! (and-then ! (load ! (from ! (stop !)) (look ! 11 refl)) (and-then ! (load ! (from ! (fld ! refl (stop !))) (look-in ! 25 (sub ! 1 refl (whole !)))) (no-more !)))) (from ! (stop !)) (init ! 9 refl (tt, (tt, (record { fits = is-store .0 .1 .0 }, tt)))) $
-        assigns ! (addr ! (from ! (fld ! refl (hop ! (look-in ! 23 (sub ! 0 refl (whole !))) (stop !))))) (from ! (stop !)) (init ! 7 refl (tt, tt)) $
-        assigns ! (agg ! (and-then ! (load ! (from ! (stop !)) (look ! 7 refl)) (and-then ! (load ! (from ! (fld ! refl (stop !))) (look-in ! 23 (sub ! 1 refl (whole !)))) (no-more !)))) (from ! (stop !)) (init ! 5 refl (tt, (tt, (record { fits = is-out .0 .1 .0 }, tt)))) $
-        assigns ! (of-opd ! (load ! (from ! (stop !)) (look ! 13 refl))) (from ! (stop !)) (init ! 3 refl (LL.lawful (O.the-type αᵉ) (O′.the-laws αᵉ) 𝓤 H A W .typed o _ is .0)) $
+        assigns ! (addr ! (from ! (fld ! refl (hop ! (look-in ! 25 (sub ! 0 refl (whole !))) (stop !)))))
+        (from ! (stop !)) (init ! 11 refl (tt, tt)) $
+        assigns ! (agg ! (and-then ! (load ! (from ! (stop !)) (look ! 11 refl))
+        (and-then ! (load ! (from ! (fld ! refl (stop !))) (look-in ! 25 (sub ! 1 refl (whole !)))) (no-more !))))
+        (from ! (stop !)) (init ! 9 refl (tt, (tt, (record { fits = is-store .0 .1 .0 }, tt)))) $
+        assigns ! (addr ! (from ! (fld ! refl (hop ! (look-in ! 23 (sub ! 0 refl (whole !))) (stop !)))))
+        (from ! (stop !)) (init ! 7 refl (tt, tt)) $
+        assigns ! (agg ! (and-then ! (load ! (from ! (stop !)) (look ! 7 refl))
+        (and-then ! (load ! (from ! (fld ! refl (stop !))) (look-in ! 23 (sub ! 1 refl (whole !)))) (no-more !))))
+        (from ! (stop !)) (init ! 5 refl (tt, (tt, (record { fits = is-out .0 .1 .0 }, tt)))) $
+        assigns ! (of-opd ! (load ! (from ! (stop !)) (look ! 13 refl))) (from ! (stop !))
+        (init ! 3 refl (LL.lawful (O.the-type αᵉ) (O′.the-laws αᵉ) 𝓤 H A W .typed o _ is .0)) $
         use3 W (raw (Deliver 𝓤 H A mem run .pre (to o u)) ⊛ ‵ Kept) (goes-deliver o u (r, opened-refusal b o eₒ)) $ split ! $
         calls-at ! fm (Deliver 𝓤 H A mem run) known-deliver (to o u)
-        (and-then ! (load ! (from ! (stop !)) (look ! 26 refl)) (and-then ! (load ! (from ! (stop !)) (look ! 8 refl)) (and-then ! (load ! (from ! (stop !)) (look ! 4 refl)) (and-then ! (load ! (from ! (stop !)) (look ! 20 refl)) (and-then ! (load ! (from ! (stop !)) (look ! 18 refl))
-        (and-then ! (load ! (from ! (stop !)) (look ! 2 refl)) (and-then ! (load ! (from ! (stop !)) (look ! 14 refl)) (no-more !)))))))) (λ w.
-        use1 W (later (some (λ (d : Done). (Toks ⊛ ‵ (Dn.the-row .own d (w ∷ []))) ⊛ raw (ensured 𝓤 H A deliver.ended (deliver.clauses 𝓤 H A mem run) κs (given-args o u) tt d)))) (id⊢ 𝓤 _) $ await ! tt $ pick ! (λ d.
+        (and-then ! (load ! (from ! (stop !)) (look ! 26 refl))
+        (and-then ! (load ! (from ! (stop !)) (look ! 8 refl))
+        (and-then ! (load ! (from ! (stop !)) (look ! 4 refl))
+        (and-then ! (load ! (from ! (stop !)) (look ! 20 refl)) (and-then ! (load ! (from ! (stop !)) (look ! 18 refl))
+        (and-then ! (load ! (from ! (stop !)) (look ! 2 refl))
+        (and-then ! (load ! (from ! (stop !)) (look ! 14 refl)) (no-more !)))))))) (λ w.
+        use1 W (later (some (λ (d : Done). (Toks ⊛ ‵ (Dn.the-row .own d (w ∷ [])))
+        ⊛ raw (ensured 𝓤 H A deliver.ended (deliver.clauses 𝓤 H A mem run) κs (given-args o u) tt d))))
+        (id⊢ 𝓤 _) $ await ! tt $ pick ! (λ d.
         -- what `deliver` ensures, at some last lists
-        split ! $ move ! (1 ∷ []) $ use1 W (some (λ (ws : Lasts deliver.ended κs (given-args o u)). ‵ (lasts deliver.ended κs (given-args o u) ws) ⊛ raw (fact 𝓤 (Done-did (o .packet .bytes) d (ws .1 .0) (ws .1 .1 .0))))) (id⊢ 𝓤 _) $ pick ! (λ ws.
-        split ! $ move ! (1 ∷ []) $ heard ! (Done-did (o .packet .bytes) d (ws .1 .0) (ws .1 .1 .0)) (λ did. fsplit ! $ drop ! $ fsplit ! $ fsplit ! $ move ! (1 ∷ []) $ feqL ! (λ lₛ. move ! (1 ∷ []) $ fsplit ! $ fsplit ! $ move ! (1 ∷ []) $ feqL ! (λ lₒ. move ! (1 ∷ []) $ drop ! $
+        split ! $ move ! (1 ∷ []) $ use1 W (some (λ (ws : Lasts deliver.ended κs
+        (given-args o u)). ‵ (lasts deliver.ended κs (given-args o u) ws)
+        ⊛ raw (fact 𝓤 (Done-did (o .packet .bytes) d (ws .1 .0) (ws .1 .1 .0))))) (id⊢ 𝓤 _) $ pick ! (λ ws.
+        split ! $ move ! (1 ∷ []) $ heard ! (Done-did (o .packet .bytes) d (ws .1 .0) (ws .1 .1 .0))
+        (λ did. fsplit ! $ drop ! $ fsplit ! $ fsplit ! $ move ! (1 ∷ []) $
+        feqL ! (λ lₛ. move ! (1 ∷ []) $ fsplit ! $ fsplit ! $ move ! (1 ∷ []) $ feqL ! (λ lₒ. move ! (1 ∷ []) $ drop ! $
         -- [out's last list; store's; the tokens and the result; what is kept; the locals, the last first]
         move ! (2 ∷ []) $ split ! $ move ! (1 ∷ []) $ peeks ! Dn.the-row (Is Dn.the-row) (shows 𝓤 H A Dn.the-row) d (w ∷ []) (λ is′.
         land ! (from ! (stop !)) (init ! 31 refl (typed-d d w is′)) $
-        returns ! (look ! 31 refl) $ forget ! 5 refl $ forget ! 7 refl $ forget ! 9 refl $ forget ! 11 refl $ forget ! 13 refl $ forget ! 15 refl $ forget ! 17 refl $ forget ! 19 refl $ forget ! 21 refl $ forget ! 23 refl $ forget ! 25 refl $ forget ! 27 refl $ forget ! 29 refl $ forget ! 31 refl $
-        move ! (31 ∷ 32 ∷ []) $ free1 ! $ move ! (29 ∷ 30 ∷ []) $ free1 ! $ move ! (27 ∷ 28 ∷ []) $ free1 ! $ move ! (25 ∷ 26 ∷ []) $ free1 ! $ move ! (23 ∷ 24 ∷ []) $ free1 ! $ move ! (21 ∷ 22 ∷ []) $ free1 ! $ move ! (19 ∷ 20 ∷ []) $ free1 ! $ move ! (17 ∷ 18 ∷ []) $ free1 ! $ move ! (15 ∷ 16 ∷ []) $ free1 ! $ move ! (13 ∷ 14 ∷ []) $ free1 ! $ move ! (11 ∷ 12 ∷ []) $ free1 ! $ move ! (9 ∷ 10 ∷ []) $ free1 ! $ move ! (7 ∷ 8 ∷ []) $ free1 ! $ move ! (5 ∷ 6 ∷ []) $ free1 ! $ free0 ! $ by ! (exits d w (ws .1 .0) (ws .1 .1 .0) (subst (λ (p : RefT (List ℕ)). Done-did p d (ws .1 .0) (ws .1 .1 .0)) (opened-bytes b o eₒ) did) lₛ lₒ))))))))))))))))))))))))))
+        returns ! (look ! 31 refl) $ forget ! 5 refl $ forget ! 7 refl $ forget ! 9 refl $ forget ! 11 refl $
+        forget ! 13 refl $ forget ! 15 refl $ forget ! 17 refl $ forget ! 19 refl $ forget ! 21 refl $
+        forget ! 23 refl $ forget ! 25 refl $ forget ! 27 refl $ forget ! 29 refl $ forget ! 31 refl $
+        move ! (31 ∷ 32 ∷ []) $ free1 ! $ move ! (29 ∷ 30 ∷ []) $ free1 ! $ move ! (27 ∷ 28 ∷ []) $ free1 ! $
+        move ! (25 ∷ 26 ∷ []) $ free1 ! $ move ! (23 ∷ 24 ∷ []) $ free1 ! $ move ! (21 ∷ 22 ∷ []) $ free1 ! $
+        move ! (19 ∷ 20 ∷ []) $ free1 ! $ move ! (17 ∷ 18 ∷ []) $ free1 ! $ move ! (15 ∷ 16 ∷ []) $ free1 ! $
+        move ! (13 ∷ 14 ∷ []) $ free1 ! $ move ! (11 ∷ 12 ∷ []) $ free1 ! $ move ! (9 ∷ 10 ∷ []) $ free1 ! $
+        move ! (7 ∷ 8 ∷ []) $ free1 ! $ move ! (5 ∷ 6 ∷ []) $ free1 ! $ free0 ! $
+        by ! (exits d w (ws .1 .0) (ws .1 .1 .0)
+        (subst (λ (p : RefT (List ℕ)). Done-did p d (ws .1 .0) (ws .1 .1 .0)) (opened-bytes b o eₒ) did) lₛ lₒ))))))))))))))))))))))))))
 
 module _ {M : Type 1} (𝓤 : URA M) (H : Heap 𝓤) (A : Atoms 𝓤) (W : Given 𝓤 H A) (mem : Memory → SProp 𝓤) (run : Routine → Fun 𝓤) where
-  read-walks : (C₀ : Calls 𝓤 H) (Λ : Loops 𝓤 H) → FmC 𝓤 H (W .laws) C₀ → Triple 𝓤 (C₀ open-def.name) (Open 𝓤 H A mem run) → Triple 𝓤 (C₀ deliver-def.name) (Deliver 𝓤 H A mem run)
+  read-walks : (C₀ : Calls 𝓤 H) (Λ : Loops 𝓤 H) → FmC 𝓤 H (W .laws) C₀
+      → Triple 𝓤 (C₀ open-def.name) (Open 𝓤 H A mem run) → Triple 𝓤 (C₀ deliver-def.name) (Deliver 𝓤 H A mem run)
       → Walks 𝓤 H A read.ended stayed (WpFn 𝓤 H C₀ Λ code.function) (read.clauses 𝓤 H A mem run)
   read-walks C₀ Λ fm known-open known-deliver = walked 𝓤 H A read.ended stayed (read.clauses 𝓤 H A mem run) (WpFn 𝓤 H C₀ Λ code.function)
-      (λ κs. ((λ s. coordinatorVal s ∷ []), (slice-vals, (slice-vals, (uint-vals w64, (bool-vals, (slice-vals, ((λ e. entryVal e ∷ []), tt))))))))
-      (λ κs. (coordinator-tells, (mut-slice-tells (named 0) (κs .0) u8, (mut-slice-tells (named 1) (κs .1 .0) u8, (uint-tells w64, (bool-tells, (shr-slice-tells (named 2) (κs .1 .1 .0) u8, (entry-tells, tt))))))))
+      (λ κs. (
+        (λ s. coordinatorVal s ∷ []),
+        (
+          slice-vals,
+          (
+            slice-vals,
+            (uint-vals w64, (bool-vals, (slice-vals, ((λ e. entryVal e ∷ []), tt)))),
+          ),
+        ),
+      ))
+      (λ κs. (
+        coordinator-tells,
+        (
+          mut-slice-tells (named 0) (κs .0) u8,
+          (
+            mut-slice-tells (named 1) (κs .1 .0) u8,
+            (uint-tells w64, (bool-tells, (shr-slice-tells (named 2) (κs .1 .1 .0) u8, (entry-tells, tt)))),
+          ),
+        ),
+      ))
       (λ κs qs bounds a g are. needs 𝓤 _ _ (λ r.
-      walk 𝓤 H A W mem run κs qs (a .0) (a .1 .0) (a .1 .1 .0) (a .1 .1 .1 .0) (are .1 .1 .1 .0 .1) (a .1 .1 .1 .1 .0) (a .1 .1 .1 .1 .1 .0) (a .1 .1 .1 .1 .1 .1 .0) C₀ Λ fm known-open known-deliver Dn′.mir C′.mir E′.mir r
-      (coordinator-typed 𝓤 H A W (a .0) _ (are .0)) (are .1 .0) (are .1 .1 .0) (are .1 .1 .1 .1 .1 .0) (entry-typed 𝓤 H A W (a .1 .1 .1 .1 .1 .1 .0) _ (are .1 .1 .1 .1 .1 .1 .0)) (done-typed 𝓤 H A W)))
+      walk 𝓤 H A W mem run κs qs (a .0) (a .1 .0) (a .1 .1 .0) (a .1 .1 .1 .0) (are .1 .1 .1 .0 .1) (a .1 .1 .1 .1 .0)
+      (a .1 .1 .1 .1 .1 .0) (a .1 .1 .1 .1 .1 .1 .0) C₀ Λ fm known-open known-deliver Dn′.mir C′.mir E′.mir r
+      (coordinator-typed 𝓤 H A W (a .0) _ (are .0)) (are .1 .0) (are .1 .1 .0) (are .1 .1 .1 .1 .1 .0)
+      (entry-typed 𝓤 H A W (a .1 .1 .1 .1 .1 .1 .0) _ (are .1 .1 .1 .1 .1 .1 .0)) (done-typed 𝓤 H A W)))
 
-read-meets : {M : Type 1} (𝓤 : URA M) (H : Heap 𝓤) (A : Atoms 𝓤) (W : Given 𝓤 H A) (mem : Memory → SProp 𝓤) (run : Routine → Fun 𝓤) (𝓣 : Tables 𝓤 H)
-    → Triple 𝓤 (𝓣 .C open-def.name) (Open 𝓤 H A mem run) → Triple 𝓤 (𝓣 .C deliver-def.name) (Deliver 𝓤 H A mem run)
+read-meets :
+    {M : Type 1} (𝓤 : URA M) (H : Heap 𝓤) (A : Atoms 𝓤) (W : Given 𝓤 H A) (mem : Memory → SProp 𝓤)
+    (run : Routine → Fun 𝓤) (𝓣 : Tables 𝓤 H) → Triple 𝓤 (𝓣 .C open-def.name) (Open 𝓤 H A mem run)
+    → Triple 𝓤 (𝓣 .C deliver-def.name) (Deliver 𝓤 H A mem run)
     → Meets 𝓤 H A read.signature (WpFn 𝓤 H (𝓣 .C) (𝓣 .Λ) code.function) (read.spec 𝓤 H A mem run)
 read-meets 𝓤 H A W mem run 𝓣 known-open known-deliver =
     walk-meets 𝓤 H A read.ended stayed W (
@@ -330,5 +425,7 @@ read-spec 𝓤 H 𝓜 𝓖 𝓡 =
     entered 𝓤 H (tripleOf 𝓤 H (𝓖 .A) read.signature (read.spec 𝓤 H (𝓖 .A) (𝓜 .mem) (𝓡 .run)))
     (tables 𝓤 H 𝓜 𝓡 code.env .C) (tables 𝓤 H 𝓜 𝓡 code.env .Λ) name code.function (code.unfolded 𝓤 H 𝓜 𝓡)
     (read-meets 𝓤 H (𝓖 .A) (givenOf 𝓤 H 𝓜 𝓖) (𝓜 .mem) (𝓡 .run) (tablesOf 𝓤 H 𝓜 (tables 𝓤 H 𝓜 𝓡 code.env))
-    (cited 𝓤 H (Open 𝓤 H (𝓖 .A) (𝓜 .mem) (𝓡 .run)) 𝓜 𝓡 code.env open-def.name open-def.routine code.calls-packet-in-hand·open (open-thm.met 𝓤 H 𝓜 𝓖 𝓡))
-    (cited 𝓤 H (Deliver 𝓤 H (𝓖 .A) (𝓜 .mem) (𝓡 .run)) 𝓜 𝓡 code.env deliver-def.name deliver-def.routine code.calls-process·packets·deliver (deliver-thm.met 𝓤 H 𝓜 𝓖 𝓡)))
+    (cited 𝓤 H (Open 𝓤 H (𝓖 .A) (𝓜 .mem) (𝓡 .run)) 𝓜 𝓡 code.env open-def.name open-def.routine
+    code.calls-packet-in-hand·open (open-thm.met 𝓤 H 𝓜 𝓖 𝓡))
+    (cited 𝓤 H (Deliver 𝓤 H (𝓖 .A) (𝓜 .mem) (𝓡 .run)) 𝓜 𝓡 code.env deliver-def.name deliver-def.routine
+    code.calls-process·packets·deliver (deliver-thm.met 𝓤 H 𝓜 𝓖 𝓡)))

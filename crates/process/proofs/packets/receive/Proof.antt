@@ -26,7 +26,10 @@ read-requires c κs = ready _ _ _ (sym (c .before .before .before .before .befor
 
 returns : tie.Need-returns
 unfolding receiveTurn
-returns c = before-did _ _ _ (sym (c .before .before .before .before .before2 .ensures) ∙ c .before .before .passed .given .1) (c .refused .ensures)
+returns c =
+    let after-before2 = c .before .before .before .before in
+    before-did _ _ _ (sym (after-before2 .before2 .ensures) ∙ c .before .before .passed .given .1)
+    (c .refused .ensures)
 
 same-length : tie.Need-same-length
 same-length c = search needs
@@ -36,7 +39,12 @@ same-length-2 c = search needs
 
 returns-2 : tie.Need-returns-2
 unfolding receiveTurn
-returns-2 c = passed-did _ _ (sym (c .before .before .before .before .before .before .before .before .before .before2 .ensures) ∙ c .before .before .before .before .before .before .before .enum-told .given .1) (c .before .before .before .before .read .ensures)
+returns-2 c =
+    let after-read = c .before .before .before .before in
+    let after-enum-told = after-read .before .before .before in
+    let after-before2 = after-enum-told .before .before in
+    passed-did _ _ (sym (after-before2 .before2 .ensures) ∙ after-enum-told .enum-told .given .1)
+    (after-read .read .ensures)
 
 pub receive-spec : {M : Type 1} → statement M
 receive-spec =

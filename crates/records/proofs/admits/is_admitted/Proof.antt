@@ -22,7 +22,9 @@ element-copy-out-if1 c = omega arith
 
 returns : tie.Need-returns
 unfolding admittedAt
-returns c = rw (not-true (getD (c .before .before .before .before .before .args .s .marks .ended) (c .before .before .before .before .before .args .i) false) (c .if1 .taken))
+returns c =
+    let start = c .before .before .before .before .before in
+    rw (not-true (getD (start .args .s .marks .ended) (start .args .i) false) (c .if1 .taken))
 
 mul-entry : tie.Need-mul-entry
 mul-entry c = omega arith
@@ -32,7 +34,13 @@ element-copy-out-entry c = omega arith
 
 returns-2 : tie.Need-returns-2
 unfolding admittedAt
-returns-2 c = rw (not-false (getD (c .before .before .before .before .before .before .before .before .before .args .s .marks .ended) (c .before .before .before .before .before .before .before .before .before .args .i) false) (c .before .before .before .before .if1 .left), not-true (getD (c .before .before .before .before .before .before .before .before .before .args .s .config .signers) (c .before .before .before .before .before .before .before .before .before .args .i) noEntry .«has_keys») (c .if2 .taken))
+returns-2 c =
+    let else1 = c .before .before .before .before in
+    let start = else1 .before .before .before .before .before in
+    rw (
+      not-false (getD (start .args .s .marks .ended) (start .args .i) false) (else1 .if1 .left),
+      not-true (getD (start .args .s .config .signers) (start .args .i) noEntry .«has_keys») (c .if2 .taken),
+    )
 
 key-list-requires : tie.Need-key-list-requires
 key-list-requires c κs = tt
@@ -43,10 +51,24 @@ compare-requires c κs = tt
 returns-3 : tie.Need-returns-3
 unfolding admittedAt
 returns-3 c =
-    let a = c .before .before .before .before .before .before .before .before .before .before .before .before .before .before .args in
-    let same : c .before .before .compare .result .same ≡ sameSet (idsIn (now (a .key-ids))) (listed (getD (a .s .config .signers) (a .i) noEntry .keys)) =
-    c .before .before .compare .ensures ∙ ap (λ (l : List ℕ). sameSet l (listed (getD (a .s .config .signers) (a .i) noEntry .keys))) (ap listed (c .before .before .before .key-list .ensures) ∙ listed-keyList (now (a .key-ids)) ∙ all-keys (now (a .key-ids)) (omega arith)) in
-    rw (not-false (getD (a .s .marks .ended) (a .i) false) (c .before .before .before .before .before .before .before .before .before .if1 .left), not-false (getD (a .s .config .signers) (a .i) noEntry .«has_keys») (c .before .before .before .before .before .if2 .left), ← same, not-true (c .before .before .compare .result .same) (c .if3 .taken))
+    let after-compare = c .before .before in
+    let after-key-list = after-compare .before in
+    let else2 = after-key-list .before .before in
+    let else1 = else2 .before .before .before .before in
+    let start = else1 .before .before .before .before .before in
+    let a = start .args in
+    let same : after-compare .compare .result .same ≡ sameSet (idsIn (now (a .key-ids)))
+    (listed (getD (a .s .config .signers) (a .i) noEntry .keys)) =
+    after-compare .compare .ensures
+    ∙ ap (λ (l : List ℕ). sameSet l (listed (getD (a .s .config .signers) (a .i) noEntry .keys)))
+    (ap listed (after-key-list .key-list .ensures) ∙ listed-keyList (now (a .key-ids))
+    ∙ all-keys (now (a .key-ids)) (omega arith)) in
+    rw (
+      not-false (getD (a .s .marks .ended) (a .i) false) (else1 .if1 .left),
+      not-false (getD (a .s .config .signers) (a .i) noEntry .«has_keys») (else2 .if2 .left),
+      ← same,
+      not-true (after-compare .compare .result .same) (c .if3 .taken),
+    )
 
 are-valid-requires : tie.Need-are-valid-requires
 are-valid-requires c κs = tt
@@ -54,10 +76,27 @@ are-valid-requires c κs = tt
 returns-4 : tie.Need-returns-4
 unfolding admittedAt
 returns-4 c =
-    let a = c .before .before .before .before .before .before .before .before .before .before .before .before .before .before .before .before .args in
-    let same : c .before .before .before .before .compare .result .same ≡ sameSet (idsIn (now (a .key-ids))) (listed (getD (a .s .config .signers) (a .i) noEntry .keys)) =
-    c .before .before .before .before .compare .ensures ∙ ap (λ (l : List ℕ). sameSet l (listed (getD (a .s .config .signers) (a .i) noEntry .keys))) (ap listed (c .before .before .before .before .before .key-list .ensures) ∙ listed-keyList (now (a .key-ids)) ∙ all-keys (now (a .key-ids)) (omega arith)) in
-    rw (not-false (getD (a .s .marks .ended) (a .i) false) (c .before .before .before .before .before .before .before .before .before .before .before .if1 .left), not-false (getD (a .s .config .signers) (a .i) noEntry .«has_keys») (c .before .before .before .before .before .before .before .if2 .left), ← same, not-false (c .before .before .before .before .compare .result .same) (c .before .before .if3 .left), ← c .before .are-valid .ensures, not-true (c .before .are-valid .result) (c .if4 .taken))
+    let after-are-valid = c .before in
+    let after-compare = after-are-valid .before .before .before in
+    let after-key-list = after-compare .before in
+    let else2 = after-key-list .before .before in
+    let else1 = else2 .before .before .before .before in
+    let start = else1 .before .before .before .before .before in
+    let a = start .args in
+    let same : after-compare .compare .result .same ≡ sameSet (idsIn (now (a .key-ids)))
+    (listed (getD (a .s .config .signers) (a .i) noEntry .keys)) =
+    after-compare .compare .ensures
+    ∙ ap (λ (l : List ℕ). sameSet l (listed (getD (a .s .config .signers) (a .i) noEntry .keys)))
+    (ap listed (after-key-list .key-list .ensures) ∙ listed-keyList (now (a .key-ids))
+    ∙ all-keys (now (a .key-ids)) (omega arith)) in
+    rw (
+      not-false (getD (a .s .marks .ended) (a .i) false) (else1 .if1 .left),
+      not-false (getD (a .s .config .signers) (a .i) noEntry .«has_keys») (else2 .if2 .left),
+      ← same,
+      not-false (after-compare .compare .result .same) (c .before .before .if3 .left),
+      ← after-are-valid .are-valid .ensures,
+      not-true (after-are-valid .are-valid .result) (c .if4 .taken),
+    )
 
 element-copy-out-result : tie.Need-element-copy-out-result
 element-copy-out-result c = omega arith
@@ -65,10 +104,28 @@ element-copy-out-result c = omega arith
 returns-5 : tie.Need-returns-5
 unfolding admittedAt
 returns-5 c =
-    let a = c .before .before .before .before .before .before .before .before .before .before .before .before .before .before .before .before .before .args in
-    let same : c .before .before .before .before .before .compare .result .same ≡ sameSet (idsIn (now (a .key-ids))) (listed (getD (a .s .config .signers) (a .i) noEntry .keys)) =
-    c .before .before .before .before .before .compare .ensures ∙ ap (λ (l : List ℕ). sameSet l (listed (getD (a .s .config .signers) (a .i) noEntry .keys))) (ap listed (c .before .before .before .before .before .before .key-list .ensures) ∙ listed-keyList (now (a .key-ids)) ∙ all-keys (now (a .key-ids)) (omega arith)) in
-    rw (not-false (getD (a .s .marks .ended) (a .i) false) (c .before .before .before .before .before .before .before .before .before .before .before .before .if1 .left), not-false (getD (a .s .config .signers) (a .i) noEntry .«has_keys») (c .before .before .before .before .before .before .before .before .if2 .left), ← same, not-false (c .before .before .before .before .before .compare .result .same) (c .before .before .before .if3 .left), ← c .before .before .are-valid .ensures, not-false (c .before .before .are-valid .result) (c .before .if4 .left))
+    let after-are-valid = c .before .before in
+    let else3 = after-are-valid .before in
+    let after-compare = else3 .before .before in
+    let after-key-list = after-compare .before in
+    let else2 = after-key-list .before .before in
+    let else1 = else2 .before .before .before .before in
+    let start = else1 .before .before .before .before .before in
+    let a = start .args in
+    let same : after-compare .compare .result .same ≡ sameSet (idsIn (now (a .key-ids)))
+    (listed (getD (a .s .config .signers) (a .i) noEntry .keys)) =
+    after-compare .compare .ensures
+    ∙ ap (λ (l : List ℕ). sameSet l (listed (getD (a .s .config .signers) (a .i) noEntry .keys)))
+    (ap listed (after-key-list .key-list .ensures) ∙ listed-keyList (now (a .key-ids))
+    ∙ all-keys (now (a .key-ids)) (omega arith)) in
+    rw (
+      not-false (getD (a .s .marks .ended) (a .i) false) (else1 .if1 .left),
+      not-false (getD (a .s .config .signers) (a .i) noEntry .«has_keys») (else2 .if2 .left),
+      ← same,
+      not-false (after-compare .compare .result .same) (else3 .if3 .left),
+      ← after-are-valid .are-valid .ensures,
+      not-false (after-are-valid .are-valid .result) (c .before .if4 .left),
+    )
 
 pub is-admitted-spec : {M : Type 1} → statement M
 is-admitted-spec =

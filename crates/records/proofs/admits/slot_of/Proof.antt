@@ -16,7 +16,10 @@ use Rattle.records.specs.Admits.{slotAnswer}
 use Rattle.records.proofs.Asking.{slot-next, slot-end}
 
 abbrev Inv-loop : tie.InvT-loop
-Inv-loop id count signers i₀ i = (length signers ≡ 10) × (count ≤ 10) × (i ≤ count) × (slotFrom (id .0) i (map entryId (drop i (take count signers))) ≡ slotFrom (id .0) 0 (map entryId (take count signers)))
+Inv-loop id count signers i₀ i =
+    (length signers ≡ 10) × (count ≤ 10) × (i ≤ count)
+    × (slotFrom (id .0) i (map entryId (drop i (take count signers)))
+    ≡ slotFrom (id .0) 0 (map entryId (take count signers)))
 
 abbrev μ-loop : tie.MeasureT-loop
 μ-loop id count signers i₀ i = count - i
@@ -33,9 +36,15 @@ array-copy-out-e c = omega arith
 returns : tie.Need-returns Inv-loop μ-loop
 unfolding entries slotAnswer
 returns c =
-    let v = c .before .before .before .before .before .before .loop in
-    let a = c .before .before .before .before .before .before .before .before .args in
-    ap slotAnswer (rw (eq-eqb _ _ (c .if1 .taken)) at (slot-next (a .id .0) (a .g .signers) (a .g .count) (v .i) noEntry _ (c .before .before .before .before .before .loop-test .taken) (omega arith) refl (v .inv .3)))
+    let in-loop = c .before .before .before .before .before in
+    let at-loop = in-loop .before in
+    let start = at-loop .before .before in
+    let v = at-loop .loop in
+    let a = start .args in
+    ap slotAnswer
+    (rw (eq-eqb _ _ (c .if1 .taken)) at
+    (slot-next (a .id .0) (a .g .signers) (a .g .count) (v .i) noEntry _ (in-loop .loop-test .taken) (omega arith)
+    refl (v .inv .3)))
 
 add-i : tie.Need-add-i Inv-loop μ-loop
 add-i c = omega arith
@@ -45,9 +54,18 @@ loop-less c = omega arith
 
 loop-again : tie.Need-loop-again Inv-loop μ-loop
 loop-again c =
-    let v = c .before .before .before .before .before .before .loop in
-    let a = c .before .before .before .before .before .before .before .before .args in
-    (v .inv .0, omega arith, omega arith, rw (ne-eqb _ _ (c .if1 .left)) at (slot-next (a .id .0) (a .g .signers) (a .g .count) (v .i) noEntry _ (c .before .before .before .before .before .loop-test .taken) (omega arith) refl (v .inv .3)))
+    let in-loop = c .before .before .before .before .before in
+    let at-loop = in-loop .before in
+    let start = at-loop .before .before in
+    let v = at-loop .loop in
+    let a = start .args in (
+      v .inv .0,
+      omega arith,
+      omega arith,
+      rw (ne-eqb _ _ (c .if1 .left)) at
+          (slot-next (a .id .0) (a .g .signers) (a .g .count) (v .i) noEntry _ (in-loop .loop-test .taken) (omega arith)
+          refl (v .inv .3)),
+    )
 
 returns-2 : tie.Need-returns-2 Inv-loop μ-loop
 unfolding entries slotAnswer

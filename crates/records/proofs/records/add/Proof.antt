@@ -53,8 +53,13 @@ same-length c = search needs
 
 returns : tie.Need-returns
 returns c =
-    let a = c .before .before .before .before .before .before .before .before .before .before .before .before .before .before .before .before .before .args in
-    add-done (a .records) _ _ _ _ (a .r) (a .i) _ (c .before .before .before .before .before .before .before .before .before .before .before .«open» .ensures .0) (c .before .before .before .before .before .before .before .before .before .before .before .«open» .ensures .1) (c .before .before .before .before .before .before .before .copy .ensures) (c .before .before .before .copy2 .ensures) (omega arith) (omega arith)
+    let after-copy2 = c .before .before .before in
+    let after-copy = after-copy2 .before .before .before .before in
+    let after-open = after-copy .before .before .before .before in
+    let start = after-open .before .before .before .before .before .before in
+    let a = start .args in
+    add-done (a .records) _ _ _ _ (a .r) (a .i) _ (after-open .«open» .ensures .0) (after-open .«open» .ensures .1)
+    (after-copy .copy .ensures) (after-copy2 .copy2 .ensures) (omega arith) (omega arith)
 
 pub add-spec : {M : Type 1} → statement M
 add-spec =

@@ -20,7 +20,9 @@ same-requires c κs = tt
 
 returns : tie.Need-returns
 unfolding rowMessage bytesAt
-returns c = rw (mul-one (c .before .before .before .before .args .row .message)) (c .same .ensures ∙ ap (sameBytes _) (c .before .part .ensures))
+returns c =
+    let start = c .before .before .before .before in
+    rw (mul-one (start .args .row .message)) (c .same .ensures ∙ ap (sameBytes _) (c .before .part .ensures))
 
 pub is-of-spec : {M : Type 1} → statement M
 is-of-spec = tie.close (tie.spec mul-at part-requires same-requires returns)

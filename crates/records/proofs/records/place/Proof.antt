@@ -11,7 +11,9 @@ use Rattle.records.specs.Records.{recordFrom, recordPlace}
 use Rattle.records.proofs.Adding.{place-next, place-end}
 
 abbrev Inv-loop : tie.InvT-loop
-Inv-loop store message count rows r₀ r = (length rows ≡ 4) × (count ≤ 4) × (r ≤ count) × (recordFrom message store r (drop r (take count rows)) ≡ recordFrom message store 0 (take count rows))
+Inv-loop store message count rows r₀ r =
+    (length rows ≡ 4) × (count ≤ 4) × (r ≤ count)
+    × (recordFrom message store r (drop r (take count rows)) ≡ recordFrom message store 0 (take count rows))
 
 abbrev μ-loop : tie.MeasureT-loop
 μ-loop store message count rows r₀ r = count - r
@@ -31,9 +33,12 @@ is-of-requires c κs = omega arith
 returns : tie.Need-returns Inv-loop μ-loop
 unfolding recordPlace
 returns c =
-    let v = c .before .before .before .before .loop in
+    let in-loop = c .before .before .before in
+    let at-loop = in-loop .before in
+    let v = at-loop .loop in
     let q = c .before .is-of in
-    rw (c .if1 .taken) at (place-next _ _ _ _ (v .r) _ (q .result) (c .before .before .before .loop-test .taken) (omega arith) (q .ensures) (v .inv .3))
+    rw (c .if1 .taken) at
+    (place-next _ _ _ _ (v .r) _ (q .result) (in-loop .loop-test .taken) (omega arith) (q .ensures) (v .inv .3))
 
 add-r : tie.Need-add-r Inv-loop μ-loop
 add-r c = omega arith
@@ -43,9 +48,16 @@ loop-less c = omega arith
 
 loop-again : tie.Need-loop-again Inv-loop μ-loop
 loop-again c =
-    let v = c .before .before .before .before .loop in
-    let q = c .before .is-of in
-    (v .inv .0, v .inv .1, omega arith, rw (c .if1 .left) at (place-next _ _ _ _ (v .r) _ (q .result) (c .before .before .before .loop-test .taken) (omega arith) (q .ensures) (v .inv .3)))
+    let in-loop = c .before .before .before in
+    let at-loop = in-loop .before in
+    let v = at-loop .loop in
+    let q = c .before .is-of in (
+      v .inv .0,
+      v .inv .1,
+      omega arith,
+      rw (c .if1 .left) at
+          (place-next _ _ _ _ (v .r) _ (q .result) (in-loop .loop-test .taken) (omega arith) (q .ensures) (v .inv .3)),
+    )
 
 returns-2 : tie.Need-returns-2 Inv-loop μ-loop
 unfolding recordPlace

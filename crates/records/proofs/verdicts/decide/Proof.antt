@@ -18,10 +18,16 @@ returns-2 c = rw (eq-eqb _ _ (c .before .before .before .if1 .left), ne-eqb _ _ 
 
 returns-3 : tie.Need-returns-3
 unfolding verdictOf
-returns-3 c = rw (eq-eqb _ _ (c .before .before .before .before .before .before .if1 .left), eq-eqb _ _ (c .before .before .before .if2 .left), ne-eqb _ _ (c .if3 .taken))
+returns-3 c =
+    let else2 = c .before .before .before in
+    let else1 = else2 .before .before .before in
+    rw (eq-eqb _ _ (else1 .if1 .left), eq-eqb _ _ (else2 .if2 .left), ne-eqb _ _ (c .if3 .taken))
 
 slot-of-requires : tie.Need-slot-of-requires
-slot-of-requires c κs = c .before .before .before .before .before .before .before .before .before .before .before .before .before .before .before .pre .signers
+slot-of-requires c κs =
+    let else1 = c .before .before .before .before .before .before .before in
+    let start = else1 .before .before .before .before .before .before .before .before in
+    start .pre .signers
 
 enum-told : tie.Need-enum-told
 enum-told c = c .match .keys1
@@ -31,17 +37,40 @@ enum-known-found c = c .match .keys2
 
 verdict-at-requires : tie.Need-verdict-at-requires
 verdict-at-requires c κs =
-    let start = c .before .before .before .before .before .before .before .before .before .before .before .before .before .before .before .before .before .before .before in
-    let low = slot-low (start .args .s .config) (start .args .id .0) (c .before .found .given .0 .0) (answer-some _ _ (sym (c .before .before .before .slot-of .ensures) ∙ c .before .found .given .1)) in
+    let after-found = c .before in
+    let after-slot-of = after-found .before .before in
+    let else1 = after-slot-of .before .before .before .before .before .before .before .before in
+    let start = else1 .before .before .before .before .before .before .before .before in
+    let low = slot-low (start .args .s .config) (start .args .id .0) (after-found .found .given .0 .0)
+    (answer-some _ _ (sym (after-slot-of .slot-of .ensures) ∙ after-found .found .given .1)) in
     (start .pre, omega (arith, start .pre .signers))
 
 returns-4 : tie.Need-returns-4
 unfolding verdictOf
-returns-4 c = rw (eq-eqb _ _ (c .before .before .before .before .before .before .before .before .before .before .if1 .left), eq-eqb _ _ (c .before .before .before .before .before .before .before .if2 .left), eq-eqb _ _ (c .before .before .before .before .if3 .left), answer-none _ (sym (c .before .before .slot-of .ensures) ∙ c .enum-told .given .1))
+returns-4 c =
+    let else3 = c .before .before .before .before in
+    let else2 = else3 .before .before .before in
+    let else1 = else2 .before .before .before in
+    rw (
+      eq-eqb _ _ (else1 .if1 .left),
+      eq-eqb _ _ (else2 .if2 .left),
+      eq-eqb _ _ (else3 .if3 .left),
+      answer-none _ (sym (c .before .before .slot-of .ensures) ∙ c .enum-told .given .1),
+    )
 
 returns-5 : tie.Need-returns-5
 unfolding verdictOf
-returns-5 c = rw (eq-eqb _ _ (c .before .before .before .before .before .before .before .before .before .before .before .before .if1 .left), eq-eqb _ _ (c .before .before .before .before .before .before .before .before .before .if2 .left), eq-eqb _ _ (c .before .before .before .before .before .before .if3 .left), answer-some _ _ (sym (c .before .before .before .before .slot-of .ensures) ∙ c .before .before .found .given .1)) (c .verdict-at .ensures)
+returns-5 c =
+    let after-slot-of = c .before .before .before .before in
+    let else3 = after-slot-of .before .before in
+    let else2 = else3 .before .before .before in
+    let else1 = else2 .before .before .before in
+    rw (
+      eq-eqb _ _ (else1 .if1 .left),
+      eq-eqb _ _ (else2 .if2 .left),
+      eq-eqb _ _ (else3 .if3 .left),
+      answer-some _ _ (sym (after-slot-of .slot-of .ensures) ∙ c .before .before .found .given .1),
+    ) (c .verdict-at .ensures)
 
 pub decide-spec : {M : Type 1} → statement M
 decide-spec =

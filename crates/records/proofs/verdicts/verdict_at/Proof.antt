@@ -16,11 +16,20 @@ place-requires : tie.Need-place-requires
 place-requires c κs = c .before .before .before .before .before .before .before .pre .0 .records
 
 verdict-on-requires : tie.Need-verdict-on-requires
-verdict-on-requires c κs = (c .before .before .before .before .before .before .before .before .pre .0 .records, c .before .before .before .before .before .before .before .before .pre .1)
+verdict-on-requires c κs =
+    let start = c .before .before .before .before .before .before .before .before in
+    (start .pre .0 .records, start .pre .1)
 
 returns-2 : tie.Need-returns-2
 unfolding verdictAt
-returns-2 c = rw (← c .before .before .before .before .is-admitted .ensures, not-false (c .before .before .before .before .is-admitted .result) (c .before .before .before .if1 .left), ← c .before .place .ensures) (c .verdict-on .ensures)
+returns-2 c =
+    let else1 = c .before .before .before in
+    let after-is-admitted = else1 .before in
+    rw (
+      ← after-is-admitted .is-admitted .ensures,
+      not-false (after-is-admitted .is-admitted .result) (else1 .if1 .left),
+      ← c .before .place .ensures,
+    ) (c .verdict-on .ensures)
 
 pub verdict-at-spec : {M : Type 1} → statement M
 verdict-at-spec =

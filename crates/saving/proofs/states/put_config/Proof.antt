@@ -10,6 +10,26 @@ use Rattle.state_bytes.proofs.Back.{length-timeouts}
 use Rattle.saving_fields.proofs.Writing.{then, last, written, as-long}
 use Rattle.saving_arrays.proofs.Sizes.{signers-long}
 
+-- The function's entry, seen from after each write: its `pre` has the room, and stands too far back for `omega` to find.
+abbrev from-number4 : tie.After-put-number4 → tie.Start
+from-number4 c =
+    let after-put-number3 = c .before .before .before .before .before in
+    let after-put-number2 = after-put-number3 .before .before .before .before .before in
+    let after-put-number = after-put-number2 .before .before .before .before .before in
+    after-put-number .before .before .before .before .before .before
+
+abbrev from-number5 : tie.After-put-number5 → tie.Start
+from-number5 c = from-number4 (c .before .before .before .before .before)
+
+abbrev from-timeouts : tie.After-put-timeouts → tie.Start
+from-timeouts c = from-number5 (c .before .before .before .before)
+
+abbrev from-signers : tie.After-put-signers → tie.Start
+from-signers c = from-timeouts (c .before .before .before .before)
+
+abbrev from-number6 : tie.After-put-number6 → tie.Start
+from-number6 c = from-signers (c .before .before .before .before)
+
 cast-put-number : tie.Need-cast-put-number
 cast-put-number c = search needs
 
@@ -44,7 +64,7 @@ put-number-requires-4 : tie.Need-put-number-requires-4
 put-number-requires-4 c κs = search needs
 
 add-put-number-4 : tie.Need-add-put-number-4
-add-put-number-4 c = omega (arith, c .before .before .before .before .before .before .before .before .before .before .before .before .before .before .before .before .before .before .before .before .before .before .before .before .pre)
+add-put-number-4 c = omega (arith, from-number4 (c .before .before .before) .pre)
 
 cast-put-number-5 : tie.Need-cast-put-number-5
 cast-put-number-5 c = search needs
@@ -53,32 +73,52 @@ put-number-requires-5 : tie.Need-put-number-requires-5
 put-number-requires-5 c κs = search needs
 
 add-put-timeouts : tie.Need-add-put-timeouts
-add-put-timeouts c = omega (arith, c .before .before .before .before .before .before .before .before .before .before .before .before .before .before .before .before .before .before .before .before .before .before .before .before .before .before .before .before .before .pre)
+add-put-timeouts c = omega (arith, from-number5 (c .before .before .before) .pre)
 
 put-timeouts-requires : tie.Need-put-timeouts-requires
-put-timeouts-requires c κs = omega (arith, c .before .before .before .before .before .before .before .before .before .before .before .before .before .before .before .before .before .before .before .before .before .before .before .before .before .before .before .before .before .pre)
+put-timeouts-requires c κs = omega (arith, from-number5 (c .before .before .before) .pre)
 
 add-put-signers : tie.Need-add-put-signers
-add-put-signers c = omega (arith, c .before .before .before .before .before .before .before .before .before .before .before .before .before .before .before .before .before .before .before .before .before .before .before .before .before .before .before .before .before .before .before .before .before .pre)
+add-put-signers c = omega (arith, from-timeouts (c .before .before .before) .pre)
 
 put-signers-requires : tie.Need-put-signers-requires
-put-signers-requires c κs = omega (arith, c .before .before .before .before .before .before .before .before .before .before .before .before .before .before .before .before .before .before .before .before .before .before .before .before .before .before .before .before .before .before .before .before .before .pre)
+put-signers-requires c κs = omega (arith, from-timeouts (c .before .before .before) .pre)
 
 add-put-number-5 : tie.Need-add-put-number-5
-add-put-number-5 c = omega (arith, c .before .before .before .before .before .before .before .before .before .before .before .before .before .before .before .before .before .before .before .before .before .before .before .before .before .before .before .before .before .before .before .before .before .before .before .before .before .pre)
+add-put-number-5 c = omega (arith, from-signers (c .before .before .before) .pre)
 
 put-number-requires-6 : tie.Need-put-number-requires-6
 put-number-requires-6 c κs = search needs
 
 add-put-flag : tie.Need-add-put-flag
-add-put-flag c = omega (arith, c .before .before .before .before .before .before .before .before .before .before .before .before .before .before .before .before .before .before .before .before .before .before .before .before .before .before .before .before .before .before .before .before .before .before .before .before .before .before .before .before .before .pre)
+add-put-flag c = omega (arith, from-number6 (c .before .before .before) .pre)
 
 put-flag-requires : tie.Need-put-flag-requires
 put-flag-requires c κs = search needs
 
 returns : tie.Need-returns
 unfolding savedConfig
-returns c = written (then (length-le 4 _) (omega arith) (c .before .before .before .before .before .before .before .before .before .before .before .before .before .before .before .before .before .before .before .before .before .before .before .before .before .before .before .before .before .before .before .before .before .before .before .before .before .before .put-number .ensures) (then (length-le 4 _) (omega arith) (c .before .before .before .before .before .before .before .before .before .before .before .before .before .before .before .before .before .before .before .before .before .before .before .before .before .before .before .before .before .before .before .before .before .put-number2 .ensures) (then (length-le 4 _) (omega arith) (c .before .before .before .before .before .before .before .before .before .before .before .before .before .before .before .before .before .before .before .before .before .before .before .before .before .before .before .before .put-number3 .ensures) (then (length-le 4 _) (omega arith) (c .before .before .before .before .before .before .before .before .before .before .before .before .before .before .before .before .before .before .before .before .before .before .before .put-number4 .ensures) (then (length-le 4 _) (omega arith) (c .before .before .before .before .before .before .before .before .before .before .before .before .before .before .before .before .before .before .put-number5 .ensures) (then (length-timeouts _) (omega arith) (c .before .before .before .before .before .before .before .before .before .before .before .before .before .before .put-timeouts .ensures) (then (signers-long (c .before .before .before .before .before .before .before .before .before .before .before .before .before .before .before .before .before .before .before .before .before .before .before .before .before .before .before .before .before .before .before .before .before .before .before .before .before .before .before .before .before .before .before .before .args .g) _ (c .before .before .before .before .before .before .before .before .before .before .before .before .before .before .before .before .before .before .before .before .before .before .before .before .before .before .before .before .before .before .before .before .before .before .before .before .before .before .before .before .before .before .before .before .good .1 .1 .0)) (omega arith) (c .before .before .before .before .before .before .before .before .before .before .put-signers .ensures) (then (length-le 8 _) (omega arith) (c .before .before .before .before .before .before .put-number6 .ensures) (last (c .before .before .put-flag .ensures))))))))))
+returns c =
+    let after-put-number6 = c .before .before .before .before .before .before in
+    let after-put-signers = after-put-number6 .before .before .before .before in
+    let after-put-timeouts = after-put-signers .before .before .before .before in
+    let after-put-number5 = after-put-timeouts .before .before .before .before in
+    let after-put-number4 = after-put-number5 .before .before .before .before .before in
+    let after-put-number3 = after-put-number4 .before .before .before .before .before in
+    let after-put-number2 = after-put-number3 .before .before .before .before .before in
+    let after-put-number = after-put-number2 .before .before .before .before .before in
+    let start = after-put-number .before .before .before .before .before .before in
+    written
+    (then (length-le 4 _) (omega arith) (after-put-number .put-number .ensures)
+    (then (length-le 4 _) (omega arith) (after-put-number2 .put-number2 .ensures)
+    (then (length-le 4 _) (omega arith) (after-put-number3 .put-number3 .ensures)
+    (then (length-le 4 _) (omega arith) (after-put-number4 .put-number4 .ensures)
+    (then (length-le 4 _) (omega arith) (after-put-number5 .put-number5 .ensures)
+    (then (length-timeouts _) (omega arith) (after-put-timeouts .put-timeouts .ensures)
+    (then (signers-long (start .args .g) _ (start .good .1 .1 .0)) (omega arith)
+    (after-put-signers .put-signers .ensures)
+    (then (length-le 8 _) (omega arith) (after-put-number6 .put-number6 .ensures)
+    (last (c .before .before .put-flag .ensures))))))))))
 
 same-length : tie.Need-same-length
 same-length c = as-long _ _ _ _ (returns c)

@@ -41,9 +41,22 @@ same-length c = search needs
 returns : tie.Need-returns
 unfolding savedHead
 returns c =
-    let start = c .before .before .before .before .before .before .before .before .before .before .before .before .before .before .before .before .before .before .before .before .before .before .before .before .before .before .before .before .before .before .before .before .before .before in
+    let after-put-position = c .before .before .before .before .before .before in
+    let after-put-ids = after-put-position .before .before .before .before in
+    let after-put-config = after-put-ids .before .before .before .before in
+    let after-put-flag = after-put-config .before .before .before .before in
+    let after-put-number = after-put-flag .before .before .before .before in
+    let after-copy = after-put-number .before .before .before .before in
+    let start = after-copy .before .before .before .before .before .before .before .before in
     let f = all-saves (start .args .s) _ (start .good .1 .0) in
-    written (then refl (omega arith) (c .before .before .before .before .before .before .before .before .before .before .before .before .before .before .before .before .before .before .before .before .before .before .before .before .before .before .copy .ensures) (then (length-le 8 _) (omega arith) (c .before .before .before .before .before .before .before .before .before .before .before .before .before .before .before .before .before .before .before .before .before .before .put-number .ensures) (then refl (omega arith) (c .before .before .before .before .before .before .before .before .before .before .before .before .before .before .before .before .before .before .put-flag .ensures) (then (length-config _ (f .config)) (omega arith) (c .before .before .before .before .before .before .before .before .before .before .before .before .before .before .put-config .ensures) (then (length-ids _) (omega arith) (c .before .before .before .before .before .before .before .before .before .before .put-ids .ensures) (then (length-position _ (f .root)) (omega arith) (c .before .before .before .before .before .before .put-position .ensures) (last (c .before .before .put-message .ensures))))))))
+    written
+    (then refl (omega arith) (after-copy .copy .ensures)
+    (then (length-le 8 _) (omega arith) (after-put-number .put-number .ensures)
+    (then refl (omega arith) (after-put-flag .put-flag .ensures)
+    (then (length-config _ (f .config)) (omega arith) (after-put-config .put-config .ensures)
+    (then (length-ids _) (omega arith) (after-put-ids .put-ids .ensures)
+    (then (length-position _ (f .root)) (omega arith) (after-put-position .put-position .ensures)
+    (last (c .before .before .put-message .ensures))))))))
 
 pub put-head-spec : {M : Type 1} → statement M
 put-head-spec =

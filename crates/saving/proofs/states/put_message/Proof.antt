@@ -25,7 +25,12 @@ same-length c = search needs
 
 returns : tie.Need-returns
 unfolding savedMessage
-returns c = written (then (bytes-256 (c .before .before .before .before .before .before .before .before .before .before .before .args .m) _ (c .before .before .before .before .before .before .before .before .before .before .before .good .1 .1 .0)) (omega arith) (c .before .before .before .before .before .before .copy .ensures) (last (c .before .before .put-number .ensures)))
+returns c =
+    let after-copy = c .before .before .before .before .before .before in
+    let start = after-copy .before .before .before .before .before in
+    written
+    (then (bytes-256 (start .args .m) _ (start .good .1 .1 .0)) (omega arith) (after-copy .copy .ensures)
+    (last (c .before .before .put-number .ensures)))
 
 pub put-message-spec : {M : Type 1} → statement M
 put-message-spec =

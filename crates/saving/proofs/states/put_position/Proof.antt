@@ -44,12 +44,22 @@ same-length c = search needs
 
 returns : tie.Need-returns
 unfolding savedPosition
-returns c = let state = c .before .before .before .before .before .before .before .before .before .before .before .before .before .before .before .state-number in
-    let k = c .before .before .before .before .before .before .before .before .before .before .before .before .before .type-byte in
+returns c =
+    let after-put-number2 = c .before .before .before .before .before .before .before in
+    let after-put-number = after-put-number2 .before .before .before .before in
+    let after-type-byte = after-put-number .before .before in
+    let after-type-in = after-type-byte .before in
+    let after-state-number = after-type-in .before in
+    let start = after-state-number .before .before .before in
+    let state = after-state-number .state-number in
+    let k = after-type-byte .type-byte in
     written
-    (then refl (omega arith) (one-byte _ _ (state .result) _ (omega (arith, state .ensures, state-below (c .before .before .before .before .before .before .before .before .before .before .before .before .before .before .before .before .before .before .args .p .state))) (state .ensures) (c .before .before .before .before .before .before .before .before .before .before .before .put-number .ensures))
-    (then refl (omega arith) (one-byte _ _ (k .result) _ (omega arith) (k .ensures ∙ ap savedType (c .before .before .before .before .before .before .before .before .before .before .before .before .before .before .type-in .ensures)) (c .before .before .before .before .before .before .before .put-number2 .ensures))
-    (last (c .before .before .copy .ensures))))
+    (then refl (omega arith)
+    (one-byte _ _ (state .result) _ (omega (arith, state .ensures, state-below (start .args .p .state)))
+    (state .ensures) (after-put-number .put-number .ensures))
+    (then refl (omega arith)
+    (one-byte _ _ (k .result) _ (omega arith) (k .ensures ∙ ap savedType (after-type-in .type-in .ensures))
+    (after-put-number2 .put-number2 .ensures)) (last (c .before .before .copy .ensures))))
 
 pub put-position-spec : {M : Type 1} → statement M
 put-position-spec =

@@ -43,10 +43,25 @@ same-length c = search needs
 returns : tie.Need-returns
 unfolding savedTail
 returns c =
-    let start = c .before .before .before .before .before .before .before .before .before .before .before .before .before .before .before .before .before .before .before .before .before .before .before .before .before .before .before .before .before .before .before .before .before .before .before in
+    let after-put-flag = c .before .before .before .before .before .before in
+    let after-put-keys = after-put-flag .before .before .before .before in
+    let after-put-clocks = after-put-keys .before .before .before .before in
+    let after-put-marks = after-put-clocks .before .before .before .before in
+    let after-put-shares = after-put-marks .before .before .before .before in
+    let after-put-records = after-put-shares .before .before .before .before in
+    let after-slice-known = after-put-records .before .before .before .before .before .before .before .before in
+    let start = after-slice-known .before in
     let f = all-saves (start .args .s) _ (start .good .1 .0) in
-    let n : length (savedEach savedShares (start .args .s .shares .slots)) ≡ 250 = length-shared _ (f .shares) ∙ ap (λ (k : ℕ). shareBytes * k) (f .places) in
-    written (then (length-records _ (f .records)) (omega arith) (c .before .before .before .before .before .before .before .before .before .before .before .before .before .before .before .before .before .before .before .before .before .before .before .before .before .before .put-records .ensures) (then n (omega arith) (c .before .before .before .before .before .before .before .before .before .before .before .before .before .before .before .before .before .before .before .before .before .before .put-shares .ensures) (then (length-marks _ (f .marks)) (omega arith) (c .before .before .before .before .before .before .before .before .before .before .before .before .before .before .before .before .before .before .put-marks .ensures) (then (length-clocks _) (omega arith) (c .before .before .before .before .before .before .before .before .before .before .before .before .before .before .put-clocks .ensures) (then (length-both _) (omega arith) (c .before .before .before .before .before .before .before .before .before .before .put-keys .ensures) (then refl (omega arith) (c .before .before .before .before .before .before .put-flag .ensures) (last (c .before .before .put-number .ensures))))))))
+    let n : length (savedEach savedShares (start .args .s .shares .slots)) ≡ 250 =
+    length-shared _ (f .shares) ∙ ap (λ (k : ℕ). shareBytes * k) (f .places) in
+    written
+    (then (length-records _ (f .records)) (omega arith) (after-put-records .put-records .ensures)
+    (then n (omega arith) (after-put-shares .put-shares .ensures)
+    (then (length-marks _ (f .marks)) (omega arith) (after-put-marks .put-marks .ensures)
+    (then (length-clocks _) (omega arith) (after-put-clocks .put-clocks .ensures)
+    (then (length-both _) (omega arith) (after-put-keys .put-keys .ensures)
+    (then refl (omega arith) (after-put-flag .put-flag .ensures)
+    (last (c .before .before .put-number .ensures))))))))
 
 pub put-tail-spec : {M : Type 1} → statement M
 put-tail-spec =

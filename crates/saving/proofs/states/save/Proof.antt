@@ -19,7 +19,11 @@ same-length c = search needs
 
 returns : tie.Need-returns
 unfolding saved
-returns c = rw (c .before .before .put-tail .ensures, c .before .before .before .before .before .before .put-head .ensures) (put-next _ _ _ _ _ (rw (length-head _ (all-saves (c .before .before .before .before .before .before .before .before .before .args .s) _ (c .before .before .before .before .before .before .before .before .before .good .1 .0)))))
+returns c =
+    let after-put-head = c .before .before .before .before .before .before in
+    let start = after-put-head .before .before .before in
+    rw (c .before .before .put-tail .ensures, after-put-head .put-head .ensures)
+    (put-next _ _ _ _ _ (rw (length-head _ (all-saves (start .args .s) _ (start .good .1 .0)))))
 
 pub save-spec : {M : Type 1} → statement M
 save-spec = tie.close (tie.spec put-head-requires put-tail-requires same-length returns)

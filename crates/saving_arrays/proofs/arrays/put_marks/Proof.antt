@@ -22,7 +22,12 @@ same-length c = search needs
 
 returns : tie.Need-returns
 unfolding savedMarks
-returns c = written (then (ended-long (c .before .before .before .before .before .before .before .before .before .before .before .args .m) _ (c .before .before .before .before .before .before .before .before .before .before .before .good .1 .1 .0)) (omega arith) (c .before .before .before .before .before .before .put-flags .ensures) (last (c .before .before .put-flags2 .ensures)))
+returns c =
+    let after-put-flags = c .before .before .before .before .before .before in
+    let start = after-put-flags .before .before .before .before .before in
+    written
+    (then (ended-long (start .args .m) _ (start .good .1 .1 .0)) (omega arith) (after-put-flags .put-flags .ensures)
+    (last (c .before .before .put-flags2 .ensures)))
 
 pub put-marks-spec : {M : Type 1} → statement M
 put-marks-spec =

@@ -22,7 +22,12 @@ same-length c = search needs
 
 returns : tie.Need-returns
 unfolding savedRecords
-returns c = written (then (rows-long (c .before .before .before .before .before .before .before .before .before .before .args .r) _ (c .before .before .before .before .before .before .before .before .before .before .good .1 .1 .0)) (omega arith) (c .before .before .before .before .before .before .put-rows .ensures) (last (c .before .before .put-number .ensures)))
+returns c =
+    let after-put-rows = c .before .before .before .before .before .before in
+    let start = after-put-rows .before .before .before .before in
+    written
+    (then (rows-long (start .args .r) _ (start .good .1 .1 .0)) (omega arith) (after-put-rows .put-rows .ensures)
+    (last (c .before .before .put-number .ensures)))
 
 pub put-records-spec : {M : Type 1} → statement M
 put-records-spec =

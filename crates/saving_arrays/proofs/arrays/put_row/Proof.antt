@@ -22,7 +22,11 @@ same-length c = search needs
 
 returns : tie.Need-returns
 unfolding savedRow
-returns c = written (then (length-le 8 _) (omega arith) (c .before .before .before .before .before .before .put-number .ensures) (last (c .before .before .put-slots .ensures)))
+returns c =
+    let after-put-number = c .before .before .before .before .before .before in
+    written
+    (then (length-le 8 _) (omega arith) (after-put-number .put-number .ensures)
+    (last (c .before .before .put-slots .ensures)))
 
 pub put-row-spec : {M : Type 1} → statement M
 put-row-spec =

@@ -32,7 +32,13 @@ same-length c = search needs
 
 returns : tie.Need-returns
 unfolding savedShares
-returns c = written (then refl (omega arith) (c .before .before .before .before .before .before .before .before .before .before .before .put-flag .ensures) (then (length-le 8 _) (omega arith) (c .before .before .before .before .before .before .before .put-number .ensures) (last (c .before .before .copy .ensures))))
+returns c =
+    let after-put-number = c .before .before .before .before .before .before .before in
+    let after-put-flag = after-put-number .before .before .before .before in
+    written
+    (then refl (omega arith) (after-put-flag .put-flag .ensures)
+    (then (length-le 8 _) (omega arith) (after-put-number .put-number .ensures)
+    (last (c .before .before .copy .ensures))))
 
 pub put-share-slot-spec : {M : Type 1} → statement M
 put-share-slot-spec =

@@ -39,7 +39,16 @@ same-length c = search needs
 
 returns : tie.Need-returns
 unfolding savedSigner
-returns c = written (then (length-le 4 _) (omega arith) (c .before .before .before .before .before .before .before .before .before .before .before .before .before .before .put-number .ensures) (then refl (omega arith) (c .before .before .before .before .before .before .before .before .before .before .put-flag .ensures) (then (key-ids-long (c .before .before .before .before .before .before .before .before .before .before .before .before .before .before .before .before .before .before .before .before .before .args .e) _ (c .before .before .before .before .before .before .before .before .before .before .before .before .before .before .before .before .before .before .before .before .before .good .1 .1 .0)) (omega arith) (c .before .before .before .before .before .before .put-key-ids .ensures) (last (c .before .before .put-number2 .ensures)))))
+returns c =
+    let after-put-key-ids = c .before .before .before .before .before .before in
+    let after-put-flag = after-put-key-ids .before .before .before .before in
+    let after-put-number = after-put-flag .before .before .before .before in
+    let start = after-put-number .before .before .before .before .before .before .before in
+    written
+    (then (length-le 4 _) (omega arith) (after-put-number .put-number .ensures)
+    (then refl (omega arith) (after-put-flag .put-flag .ensures)
+    (then (key-ids-long (start .args .e) _ (start .good .1 .1 .0)) (omega arith)
+    (after-put-key-ids .put-key-ids .ensures) (last (c .before .before .put-number2 .ensures)))))
 
 pub put-signer-spec : {M : Type 1} → statement M
 put-signer-spec =

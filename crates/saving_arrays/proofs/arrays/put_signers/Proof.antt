@@ -47,17 +47,28 @@ loop-less : tie.Need-loop-less Inv-loop μ-loop
 loop-less c = search needs
 
 loop-again : tie.Need-loop-again Inv-loop μ-loop
-loop-again c = let l = c .before .before .before .before .before .before .loop in
-    let start = c .before .before .before .before .before .before .before .before in
+loop-again c =
+    let in-loop = c .before .before .before .before .before in
+    let at-loop = in-loop .before in
+    let start = at-loop .before .before in
+    let l = at-loop .loop in
     let xs = start .args .t3 in
-    let good = start .good .1 .1 .0 .1 in
-    (omega arith, each-next savedSigner 77 _ _ _ _ xs (l .i) 10 (array-given (SignerEntry-row.the-row .own) (λ x vs g. length-signer x (signer-fits x vs g)) xs _ (good .1)) (good .0 .1) (c .before .before .before .before .before .loop-test .taken) (omega arith) (l .inv .1) (c .before .before .put-signer .ensures))
+    let good = start .good .1 .1 .0 .1 in (
+      omega arith,
+      each-next savedSigner 77 _ _ _ _ xs (l .i) 10
+          (array-given (SignerEntry-row.the-row .own) (λ x vs g. length-signer x (signer-fits x vs g)) xs _ (good .1))
+          (good .0 .1) (in-loop .loop-test .taken) (omega arith) (l .inv .1) (c .before .before .put-signer .ensures),
+    )
 
 same-length : tie.Need-same-length Inv-loop μ-loop
 same-length c = as-long _ _ _ _ (c .before .loop .inv .1)
 
 returns : tie.Need-returns Inv-loop μ-loop
-returns c = let l = c .before .loop in let start = c .before .before .before in each-done savedSigner 77 _ _ (start .args .t3) (l .i) 10 (start .good .1 .1 .0 .1 .0 .1) (c .loop-test .left) (l .inv .1)
+returns c =
+    let start = c .before .before .before in
+    let l = c .before .loop in
+    each-done savedSigner 77 _ _ (start .args .t3) (l .i) 10 (start .good .1 .1 .0 .1 .0 .1) (c .loop-test .left)
+    (l .inv .1)
 
 pub put-signers-spec : {M : Type 1} → statement M
 put-signers-spec =

@@ -22,7 +22,11 @@ same-length c = search needs
 
 returns : tie.Need-returns
 unfolding savedClocks
-returns c = written (then (length-reading _) (omega arith) (c .before .before .before .before .before .before .put-reading .ensures) (last (c .before .before .put-reading2 .ensures)))
+returns c =
+    let after-put-reading = c .before .before .before .before .before .before in
+    written
+    (then (length-reading _) (omega arith) (after-put-reading .put-reading .ensures)
+    (last (c .before .before .put-reading2 .ensures)))
 
 pub put-clocks-spec : {M : Type 1} → statement M
 put-clocks-spec =

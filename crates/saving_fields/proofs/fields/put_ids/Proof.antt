@@ -28,7 +28,13 @@ same-length c = search needs
 
 returns : tie.Need-returns
 unfolding savedIds
-returns c = written (then (length-le 8 _) (omega arith) (c .before .before .before .before .before .before .before .before .before .before .put-number .ensures) (then (length-le 8 _) (omega arith) (c .before .before .before .before .before .before .put-number2 .ensures) (last (c .before .before .put-number3 .ensures))))
+returns c =
+    let after-put-number2 = c .before .before .before .before .before .before in
+    let after-put-number = after-put-number2 .before .before .before .before in
+    written
+    (then (length-le 8 _) (omega arith) (after-put-number .put-number .ensures)
+    (then (length-le 8 _) (omega arith) (after-put-number2 .put-number2 .ensures)
+    (last (c .before .before .put-number3 .ensures))))
 
 pub put-ids-spec : {M : Type 1} → statement M
 put-ids-spec =

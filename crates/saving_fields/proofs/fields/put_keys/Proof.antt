@@ -22,7 +22,10 @@ same-length c = search needs
 
 returns : tie.Need-returns
 unfolding savedKeys
-returns c = written (then refl (omega arith) (c .before .before .before .before .before .before .put-flag .ensures) (last (c .before .before .put-flag2 .ensures)))
+returns c =
+    let after-put-flag = c .before .before .before .before .before .before in
+    written
+    (then refl (omega arith) (after-put-flag .put-flag .ensures) (last (c .before .before .put-flag2 .ensures)))
 
 pub put-keys-spec : {M : Type 1} → statement M
 put-keys-spec =

@@ -38,14 +38,26 @@ same-length c = search needs
 
 returns : tie.Need-returns
 unfolding le savedReading
-returns c = rw (c .before .before .before .before .before .before .before .before .enum-told .given .1) (written (then refl (omega arith) (c .before .before .before .before .before .before .put-number .ensures) (last (c .before .before .put-number2 .ensures))))
+returns c =
+    let after-put-number = c .before .before .before .before .before .before in
+    let after-enum-told = after-put-number .before .before in
+    rw (after-enum-told .enum-told .given .1)
+    (written
+    (then refl (omega arith) (after-put-number .put-number .ensures)
+    (last (c .before .before .put-number2 .ensures))))
 
 same-length-2 : tie.Need-same-length-2
 same-length-2 c = search needs
 
 returns-2 : tie.Need-returns-2
 unfolding le savedReading
-returns-2 c = rw (c .before .before .before .before .before .before .before .before .before .r .given .1) (written (then refl (omega arith) (c .before .before .before .before .before .before .put-number3 .ensures) (last (c .before .before .put-number4 .ensures))))
+returns-2 c =
+    let after-put-number3 = c .before .before .before .before .before .before in
+    let after-r = after-put-number3 .before .before .before in
+    rw (after-r .r .given .1)
+    (written
+    (then refl (omega arith) (after-put-number3 .put-number3 .ensures)
+    (last (c .before .before .put-number4 .ensures))))
 
 pub put-reading-spec : {M : Type 1} → statement M
 put-reading-spec =

@@ -42,7 +42,17 @@ same-length c = search needs
 
 returns : tie.Need-returns
 unfolding savedSlot
-returns c = written (then refl (omega arith) (c .before .before .before .before .before .before .before .before .before .before .before .before .before .before .before .before .before .before .put-flag .ensures) (then refl (omega arith) (c .before .before .before .before .before .before .before .before .before .before .before .before .before .before .put-flag2 .ensures) (then (length-ids _) (omega arith) (c .before .before .before .before .before .before .before .before .before .before .put-ids .ensures) (then (length-le 8 _) (omega arith) (c .before .before .before .before .before .before .put-number .ensures) (last (c .before .before .put-number2 .ensures))))))
+returns c =
+    let after-put-number = c .before .before .before .before .before .before in
+    let after-put-ids = after-put-number .before .before .before .before in
+    let after-put-flag2 = after-put-ids .before .before .before .before in
+    let after-put-flag = after-put-flag2 .before .before .before .before in
+    written
+    (then refl (omega arith) (after-put-flag .put-flag .ensures)
+    (then refl (omega arith) (after-put-flag2 .put-flag2 .ensures)
+    (then (length-ids _) (omega arith) (after-put-ids .put-ids .ensures)
+    (then (length-le 8 _) (omega arith) (after-put-number .put-number .ensures)
+    (last (c .before .before .put-number2 .ensures))))))
 
 pub put-slot-spec : {M : Type 1} → statement M
 put-slot-spec =

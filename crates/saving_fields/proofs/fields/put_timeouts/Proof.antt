@@ -40,7 +40,17 @@ same-length c = search needs
 
 returns : tie.Need-returns
 unfolding savedTimeouts
-returns c = written (then (length-reading _) (omega arith) (c .before .before .before .before .before .before .before .before .before .before .before .before .before .before .before .before .before .before .put-reading .ensures) (then (length-reading _) (omega arith) (c .before .before .before .before .before .before .before .before .before .before .before .before .before .before .put-reading2 .ensures) (then (length-reading _) (omega arith) (c .before .before .before .before .before .before .before .before .before .before .put-reading3 .ensures) (then (length-reading _) (omega arith) (c .before .before .before .before .before .before .put-reading4 .ensures) (last (c .before .before .put-reading5 .ensures))))))
+returns c =
+    let after-put-reading4 = c .before .before .before .before .before .before in
+    let after-put-reading3 = after-put-reading4 .before .before .before .before in
+    let after-put-reading2 = after-put-reading3 .before .before .before .before in
+    let after-put-reading = after-put-reading2 .before .before .before .before in
+    written
+    (then (length-reading _) (omega arith) (after-put-reading .put-reading .ensures)
+    (then (length-reading _) (omega arith) (after-put-reading2 .put-reading2 .ensures)
+    (then (length-reading _) (omega arith) (after-put-reading3 .put-reading3 .ensures)
+    (then (length-reading _) (omega arith) (after-put-reading4 .put-reading4 .ensures)
+    (last (c .before .before .put-reading5 .ensures))))))
 
 pub put-timeouts-spec : {M : Type 1} → statement M
 put-timeouts-spec =

@@ -12,7 +12,8 @@ use Rattle.share_timeout.proofs.exclusion.joined.Tie as tie
 
 abbrev Inv-loop : tie.InvT-loop
 Inv-loop a b flags₀ i₀ flags i =
-    (length a ≡ 10) × (length b ≡ 10) × (length flags ≡ 10) × (i ≤ 10) × (take i flags ++ joinedFlags (drop i a) (drop i b) ≡ joinedFlags a b)
+    (length a ≡ 10) × (length b ≡ 10) × (length flags ≡ 10) × (i ≤ 10)
+    × (take i flags ++ joinedFlags (drop i a) (drop i b) ≡ joinedFlags a b)
 
 abbrev μ-loop : tie.MeasureT-loop
 μ-loop a b flags₀ i₀ flags i = 10 - i
@@ -40,13 +41,15 @@ loop-less c = omega arith
 
 loop-again : tie.Need-loop-again Inv-loop μ-loop
 loop-again c =
+    let start = c .before .before .before in
     let v = c .before .before .loop in
-    let a = c .before .before .before .args in (
+    let a = start .args in (
       v .inv .0,
       v .inv .1,
       length-set (v .flags) (v .i) (c .is-either .result) ∙ v .inv .2,
       omega arith,
-      join-next (a .t1) (a .t2) (v .flags) (v .i) (c .is-either .result) (omega arith) (omega arith) (omega arith) (c .is-either .ensures) (v .inv .4),
+      join-next (a .t1) (a .t2) (v .flags) (v .i) (c .is-either .result) (omega arith) (omega arith) (omega arith)
+          (c .is-either .ensures) (v .inv .4),
     )
 
 returns : tie.Need-returns Inv-loop μ-loop

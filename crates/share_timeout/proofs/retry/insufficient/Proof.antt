@@ -34,7 +34,11 @@ same-length-2 : tie.Need-same-length-2
 same-length-2 c = search needs
 
 returns-2 : tie.Need-returns-2
-returns-2 c new store = absurd (never-refused (c .before .before .before .before .before .write-insufficient-signers .ensures) (c .before .enum-told .given .1))
+returns-2 c new store =
+    let after-write-insufficient-signers = c .before .before .before .before .before in
+    absurd
+    (never-refused (after-write-insufficient-signers .write-insufficient-signers .ensures)
+    (c .before .enum-told .given .1))
 
 pub insufficient-spec : {M : Type 1} → statement M
 insufficient-spec =

@@ -22,8 +22,11 @@ same-length c = search needs
 returns : tie.Need-returns
 unfolding requestTurn
 returns c store =
-    let written = c .before .before .before .write-request .ensures in
-    rw (← c .before .before .before .before .before .requested .ensures) (sent-did _ store (c .sending .ensures) (written .counted) (written .buffered))
+    let after-write-request = c .before .before .before in
+    let after-requested = after-write-request .before .before in
+    let written = after-write-request .write-request .ensures in
+    rw (← after-requested .requested .ensures)
+    (sent-did _ store (c .sending .ensures) (written .counted) (written .buffered))
 
 pub request-nonces-spec : {M : Type 1} → statement M
 request-nonces-spec = tie.close (tie.spec requested-requires write-request-requires sending-requires same-length returns)

@@ -42,12 +42,14 @@ same-length c = search needs
 returns : tie.Need-returns
 unfolding requestBytes requestOf rootOf rootFor
 returns c =
-    let entry = c .before .before .before .before .before .before .before .before .before .before .before .before in
+    let after-write-nonce-request = c .before .before .before .before .before in
+    let entry = after-write-nonce-request .before .before .before .before .before .before .before in
     let a = entry .args in
     let m = nonceRequest (requestFrom (a .signature-type) (a .root) (a .s)) in
     let fine = request-within (a .signature-type) (a .root) (a .s) (entry .pre .0) in
-    let w = c .before .before .before .before .before .write-nonce-request .ensures in
-    let n : c .before .before .before .before .before .write-nonce-request .result ≡ Bytes (length (encode m)) = wrote-length m (now (a .out)) (entry .pre .1) fine w in
+    let w = after-write-nonce-request .write-nonce-request .ensures in
+    let n : after-write-nonce-request .write-nonce-request .result ≡ Bytes (length (encode m)) =
+    wrote-length m (now (a .out)) (entry .pre .1) fine w in
     let told = c .before .written .given .1 in
     record { counted = cc; buffered = wrote-bytes m (now (a .out)) (entry .pre .1) fine w }
 
@@ -57,12 +59,14 @@ same-length-2 c = search needs
 returns-2 : tie.Need-returns-2
 unfolding requestBytes requestOf rootOf rootFor
 returns-2 c =
-    let entry = c .before .before .before .before .before .before .before .before .before .before .before in
+    let after-write-nonce-request = c .before .before .before .before in
+    let entry = after-write-nonce-request .before .before .before .before .before .before .before in
     let a = entry .args in
     let m = nonceRequest (requestFrom (a .signature-type) (a .root) (a .s)) in
     let fine = request-within (a .signature-type) (a .root) (a .s) (entry .pre .0) in
-    let w = c .before .before .before .before .write-nonce-request .ensures in
-    let n : c .before .before .before .before .write-nonce-request .result ≡ Bytes (length (encode m)) = wrote-length m (now (a .out)) (entry .pre .1) fine w in
+    let w = after-write-nonce-request .write-nonce-request .ensures in
+    let n : after-write-nonce-request .write-nonce-request .result ≡ Bytes (length (encode m)) =
+    wrote-length m (now (a .out)) (entry .pre .1) fine w in
     let told = c .enum-told .given .1 in
     let z : _≡_ {A = ℕ} 0 1 = cc in
     let f : ⊥ = omega arith in

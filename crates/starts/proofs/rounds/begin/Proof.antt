@@ -13,7 +13,9 @@ refused-requires c κs = search needs
 
 returns : tie.Need-returns
 returns c store =
-    begin-10 _ _ _ _ store _ _ (not-true (c .before .before .before .before .before .before .args .s .keys .aggregate) (c .before .if1 .taken)) (c .refused .ensures)
+    let start = c .before .before .before .before .before .before in
+    begin-10 _ _ _ _ store _ _ (not-true (start .args .s .keys .aggregate) (c .before .if1 .taken))
+    (c .refused .ensures)
 
 named-requires : tie.Need-named-requires
 named-requires c κs = search needs
@@ -26,24 +28,37 @@ refused-requires-2 c κs = search needs
 
 returns-2 : tie.Need-returns-2
 returns-2 c store =
-    let a = c .before .before .before .before .before .before .before .before .before .before .before .before .args in
+    let after-named = c .before .before .before .before .before .before in
+    let else1 = after-named .before in
+    let start = else1 .before .before .before .before .before in
+    let a = start .args in
     let move = c .before .before .can-move-to in
-    begin-11 (a .clock) (now (a .message)) (a .by) (a .s) store _ _ _ (c .before .before .before .before .before .before .named .ensures) (move .result) (move .ensures) (not-false (a .s .keys .aggregate) (c .before .before .before .before .before .before .before .if1 .left))
+    begin-11 (a .clock) (now (a .message)) (a .by) (a .s) store _ _ _ (after-named .named .ensures) (move .result)
+    (move .ensures) (not-false (a .s .keys .aggregate) (else1 .if1 .left))
     (not-true (move .result) (c .before .if2 .taken)) (c .refused2 .ensures)
 
 request-nonces-requires : tie.Need-request-nonces-requires
 unfolding startNamed
-request-nonces-requires c κs = (rw (c .before .before .before .before .before .before .named .ensures) (c .before .before .before .before .before .before .before .before .before .before .before .before .pre .0), c .before .before .before .before .before .before .before .before .before .before .before .before .pre .1)
+request-nonces-requires c κs =
+    let after-named = c .before .before .before .before .before .before in
+    let start = after-named .before .before .before .before .before .before in
+    (rw (after-named .named .ensures) (start .pre .0), start .pre .1)
 
 same-length : tie.Need-same-length
 same-length c = search needs
 
 returns-3 : tie.Need-returns-3
 returns-3 c store =
-    let a = c .before .before .before .before .before .before .before .before .before .before .before .before .before .before .before .args in
-    let move = c .before .before .before .before .before .can-move-to in
-    begin-on (a .clock) (now (a .message)) (a .by) (a .s) store _ _ _ (c .before .before .before .before .before .before .before .before .before .named .ensures) (move .result) (move .ensures) (not-false (a .s .keys .aggregate) (c .before .before .before .before .before .before .before .before .before .before .if1 .left))
-    (not-false (move .result) (c .before .before .before .before .if2 .left)) _ (c .before .before .request-nonces .ensures store)
+    let else2 = c .before .before .before .before in
+    let after-can-move-to = else2 .before in
+    let after-named = after-can-move-to .before .before .before .before in
+    let else1 = after-named .before in
+    let start = else1 .before .before .before .before .before in
+    let a = start .args in
+    let move = after-can-move-to .can-move-to in
+    begin-on (a .clock) (now (a .message)) (a .by) (a .s) store _ _ _ (after-named .named .ensures) (move .result)
+    (move .ensures) (not-false (a .s .keys .aggregate) (else1 .if1 .left))
+    (not-false (move .result) (else2 .if2 .left)) _ (c .before .before .request-nonces .ensures store)
 
 pub begin-spec : {M : Type 1} → statement M
 begin-spec =

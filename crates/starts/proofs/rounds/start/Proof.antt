@@ -28,24 +28,39 @@ refused-requires-2 c κs = search needs
 
 begin-requires : tie.Need-begin-requires
 begin-requires c κs =
-    let a = c .before .before .before .before .before .before .before .before .args in
-    let asked = answered-all askingStart (length (now (a .store))) (length (now (a .out))) (a .s) (sym (c .before .before .before .before .before2 .ensures) ∙ c .before .before .enum-told .given .1) in
+    let after-before2 = c .before .before .before .before in
+    let start = after-before2 .before .before .before .before in
+    let a = start .args in
+    let asked = answered-all askingStart (length (now (a .store))) (length (now (a .out))) (a .s)
+    (sym (after-before2 .before2 .ensures) ∙ c .before .before .enum-told .given .1) in
     (c .before .if1 .left, leb-true _ _ (asked .roomy))
 
 returns : tie.Need-returns
 unfolding startTurn
-returns c = refused-did _ _ _ (sym (c .before .before .before .before .before2 .ensures) ∙ c .before .before .passed .given .1) (c .refused .ensures)
+returns c =
+    let after-before2 = c .before .before .before .before in
+    refused-did _ _ _ (sym (after-before2 .before2 .ensures) ∙ c .before .before .passed .given .1)
+    (c .refused .ensures)
 
 returns-2 : tie.Need-returns-2
 unfolding startTurn unless
-returns-2 c = rw (← c .before .before .before .before .before2 .ensures, c .before .before .enum-told .given .1, lt-leb _ _ (c .before .if1 .taken)) (error-did _ _ (c .refused2 .ensures))
+returns-2 c =
+    let after-before2 = c .before .before .before .before in
+    rw (← after-before2 .before2 .ensures, c .before .before .enum-told .given .1, lt-leb _ _ (c .before .if1 .taken))
+    (error-did _ _ (c .refused2 .ensures))
 
 same-length : tie.Need-same-length
 same-length c = search needs
 
 returns-3 : tie.Need-returns-3
 unfolding startTurn unless
-returns-3 c = rw (← c .before .before .before .before .before .before .before .before2 .ensures, c .before .before .before .before .before .enum-told .given .1, le-leb _ _ (c .before .before .before .before .if1 .left)) (c .before .before .begin .ensures (now (c .before .before .before .before .before .before .before .before .before .before .before .args .store)))
+returns-3 c =
+    let else1 = c .before .before .before .before in
+    let after-enum-told = else1 .before in
+    let after-before2 = after-enum-told .before .before in
+    let start = after-before2 .before .before .before .before in
+    rw (← after-before2 .before2 .ensures, after-enum-told .enum-told .given .1, le-leb _ _ (else1 .if1 .left))
+    (c .before .before .begin .ensures (now (start .args .store)))
 
 pub start-spec : {M : Type 1} → statement M
 start-spec =

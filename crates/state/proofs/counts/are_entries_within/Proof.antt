@@ -13,7 +13,9 @@ use Rattle.state.specs.Counts.{entryWithin, entries}
 use Rattle.state.proofs.Given.{signers-10}
 
 abbrev Inv-loop : tie.InvT-loop
-Inv-loop count signers i₀ i = (length signers ≡ 10) × (i ≤ count) × (every entryWithin (drop i (take count signers)) ≡ every entryWithin (take count signers))
+Inv-loop count signers i₀ i =
+    (length signers ≡ 10) × (i ≤ count)
+    × (every entryWithin (drop i (take count signers)) ≡ every entryWithin (take count signers))
 
 abbrev μ-loop : tie.MeasureT-loop
 μ-loop count signers i₀ i = count - i
@@ -33,9 +35,13 @@ is-entry-within-requires c κs = tt
 returns : tie.Need-returns Inv-loop μ-loop
 unfolding entries
 returns c =
-    let v = c .before .before .before .before .loop in
+    let in-loop = c .before .before .before in
+    let at-loop = in-loop .before in
+    let v = at-loop .loop in
     let r = c .before .is-entry-within in
-    rw (not-true (r .result) (c .if1 .taken)) at (every-turn entryWithin _ _ (v .i) _ (r .result) (c .before .before .before .loop-test .taken) (omega arith) (r .ensures) (v .inv .2))
+    rw (not-true (r .result) (c .if1 .taken)) at
+    (every-turn entryWithin _ _ (v .i) _ (r .result) (in-loop .loop-test .taken) (omega arith) (r .ensures)
+    (v .inv .2))
 
 add-i : tie.Need-add-i Inv-loop μ-loop
 add-i c = omega arith
@@ -45,9 +51,16 @@ loop-less c = omega arith
 
 loop-again : tie.Need-loop-again Inv-loop μ-loop
 loop-again c =
-    let v = c .before .before .before .before .loop in
-    let r = c .before .is-entry-within in
-    (v .inv .0, omega arith, rw (not-false (r .result) (c .if1 .left)) at (every-turn entryWithin _ _ (v .i) _ (r .result) (c .before .before .before .loop-test .taken) (omega arith) (r .ensures) (v .inv .2)))
+    let in-loop = c .before .before .before in
+    let at-loop = in-loop .before in
+    let v = at-loop .loop in
+    let r = c .before .is-entry-within in (
+      v .inv .0,
+      omega arith,
+      rw (not-false (r .result) (c .if1 .left)) at
+          (every-turn entryWithin _ _ (v .i) _ (r .result) (in-loop .loop-test .taken) (omega arith) (r .ensures)
+          (v .inv .2)),
+    )
 
 returns-2 : tie.Need-returns-2 Inv-loop μ-loop
 unfolding entries

@@ -13,7 +13,9 @@ use Rattle.state.specs.Counts.{rowWithin, recordsWithin}
 use Rattle.state.proofs.Given.{rows-4}
 
 abbrev Inv-loop : tie.InvT-loop
-Inv-loop n count rows i₀ i = (length rows ≡ 4) × (n ≤ 10) × (i ≤ count) × (every (rowWithin n) (drop i (take count rows)) ≡ every (rowWithin n) (take count rows))
+Inv-loop n count rows i₀ i =
+    (length rows ≡ 4) × (n ≤ 10) × (i ≤ count)
+    × (every (rowWithin n) (drop i (take count rows)) ≡ every (rowWithin n) (take count rows))
 
 abbrev μ-loop : tie.MeasureT-loop
 μ-loop n count rows i₀ i = count - i
@@ -37,9 +39,15 @@ is-row-within-requires c κs = omega arith
 returns-2 : tie.Need-returns-2 Inv-loop μ-loop
 unfolding recordsWithin
 returns-2 c =
-    let v = c .before .before .before .before .loop in
+    let in-loop = c .before .before .before in
+    let at-loop = in-loop .before in
+    let else1 = at-loop .before .before in
+    let v = at-loop .loop in
     let r = c .before .is-row-within in
-    rw (le-leb _ _ (c .before .before .before .before .before .before .if1 .left)) (rw (not-true (r .result) (c .if2 .taken)) at (every-turn (rowWithin _) _ _ (v .i) _ (r .result) (c .before .before .before .loop-test .taken) (omega arith) (r .ensures) (v .inv .3)))
+    rw (le-leb _ _ (else1 .if1 .left))
+    (rw (not-true (r .result) (c .if2 .taken)) at
+    (every-turn (rowWithin _) _ _ (v .i) _ (r .result) (in-loop .loop-test .taken) (omega arith) (r .ensures)
+    (v .inv .3)))
 
 add-i : tie.Need-add-i Inv-loop μ-loop
 add-i c = omega arith
@@ -49,13 +57,25 @@ loop-less c = omega arith
 
 loop-again : tie.Need-loop-again Inv-loop μ-loop
 loop-again c =
-    let v = c .before .before .before .before .loop in
-    let r = c .before .is-row-within in
-    (v .inv .0, omega arith, omega arith, rw (not-false (r .result) (c .if2 .left)) at (every-turn (rowWithin _) _ _ (v .i) _ (r .result) (c .before .before .before .loop-test .taken) (omega arith) (r .ensures) (v .inv .3)))
+    let in-loop = c .before .before .before in
+    let at-loop = in-loop .before in
+    let v = at-loop .loop in
+    let r = c .before .is-row-within in (
+      v .inv .0,
+      omega arith,
+      omega arith,
+      rw (not-false (r .result) (c .if2 .left)) at
+          (every-turn (rowWithin _) _ _ (v .i) _ (r .result) (in-loop .loop-test .taken) (omega arith) (r .ensures)
+          (v .inv .3)),
+    )
 
 returns-3 : tie.Need-returns-3 Inv-loop μ-loop
 unfolding recordsWithin
-returns-3 c = rw (le-leb _ _ (c .before .before .before .if1 .left)) (every-done (rowWithin _) _ _ (c .before .loop .i) (c .loop-test .left) (c .before .loop .inv .3))
+returns-3 c =
+    let at-loop = c .before in
+    let else1 = at-loop .before .before in
+    rw (le-leb _ _ (else1 .if1 .left))
+    (every-done (rowWithin _) _ _ (at-loop .loop .i) (c .loop-test .left) (at-loop .loop .inv .3))
 
 pub are-records-within-spec : {M : Type 1} → statement M
 are-records-within-spec =

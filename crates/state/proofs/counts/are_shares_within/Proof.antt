@@ -32,9 +32,13 @@ is-share-slot-within-requires c κs = tt
 
 returns : tie.Need-returns Inv-loop μ-loop
 returns c =
-    let v = c .before .before .before .before .loop in
+    let in-loop = c .before .before .before in
+    let at-loop = in-loop .before in
+    let v = at-loop .loop in
     let r = c .before .is-share-slot-within in
-    rw (not-true (r .result) (c .if1 .taken)) at (every-turn sharesWithin _ _ (v .i) _ (r .result) (c .before .before .before .loop-test .taken) (omega arith) (r .ensures) (v .inv .2))
+    rw (not-true (r .result) (c .if1 .taken)) at
+    (every-turn sharesWithin _ _ (v .i) _ (r .result) (in-loop .loop-test .taken) (omega arith) (r .ensures)
+    (v .inv .2))
 
 add-i : tie.Need-add-i Inv-loop μ-loop
 add-i c = omega arith
@@ -44,9 +48,16 @@ loop-less c = omega arith
 
 loop-again : tie.Need-loop-again Inv-loop μ-loop
 loop-again c =
-    let v = c .before .before .before .before .loop in
-    let r = c .before .is-share-slot-within in
-    (v .inv .0, omega arith, rw (not-false (r .result) (c .if1 .left)) at (every-turn sharesWithin _ _ (v .i) _ (r .result) (c .before .before .before .loop-test .taken) (omega arith) (r .ensures) (v .inv .2)))
+    let in-loop = c .before .before .before in
+    let at-loop = in-loop .before in
+    let v = at-loop .loop in
+    let r = c .before .is-share-slot-within in (
+      v .inv .0,
+      omega arith,
+      rw (not-false (r .result) (c .if1 .left)) at
+          (every-turn sharesWithin _ _ (v .i) _ (r .result) (in-loop .loop-test .taken) (omega arith) (r .ensures)
+          (v .inv .2)),
+    )
 
 returns-2 : tie.Need-returns-2 Inv-loop μ-loop
 returns-2 c = every-done sharesWithin _ _ (c .before .loop .i) (c .loop-test .left) (c .before .loop .inv .2)

@@ -17,7 +17,13 @@ are-entries-within-requires c κs = search needs
 
 returns-2 : tie.Need-returns-2
 unfolding configWithin
-returns-2 c = rw (le-leb _ _ (c .before .before .if1 .left), ← c .before .are-entries-within .ensures, not-true (c .before .are-entries-within .result) (c .if2 .taken))
+returns-2 c =
+    let after-are-entries-within = c .before in
+    rw (
+      le-leb _ _ (c .before .before .if1 .left),
+      ← after-are-entries-within .are-entries-within .ensures,
+      not-true (after-are-entries-within .are-entries-within .result) (c .if2 .taken),
+    )
 
 key-total-requires : tie.Need-key-total-requires
 key-total-requires c κs = (omega arith, sym (c .before .are-entries-within .ensures) ∙ not-false _ (c .if2 .left))
@@ -27,7 +33,15 @@ cast-result c = omega arith
 
 returns-3 : tie.Need-returns-3
 unfolding configWithin
-returns-3 c = rw (le-leb _ _ (c .before .before .before .before .if1 .left), ← c .before .before .before .are-entries-within .ensures, not-false (c .before .before .before .are-entries-within .result) (c .before .before .if2 .left), ← c .before .key-total .ensures)
+returns-3 c =
+    let after-are-entries-within = c .before .before .before in
+    let else1 = after-are-entries-within .before in
+    rw (
+      le-leb _ _ (else1 .if1 .left),
+      ← after-are-entries-within .are-entries-within .ensures,
+      not-false (after-are-entries-within .are-entries-within .result) (c .before .before .if2 .left),
+      ← c .before .key-total .ensures,
+    )
 
 pub is-config-within-spec : {M : Type 1} → statement M
 is-config-within-spec =

@@ -37,9 +37,15 @@ is-slot-within-requires c κs = tt
 returns-2 : tie.Need-returns-2 Inv-loop μ-loop
 unfolding rowWithin
 returns-2 c =
-    let v = c .before .before .before .before .loop in
+    let in-loop = c .before .before .before in
+    let at-loop = in-loop .before in
+    let else1 = at-loop .before .before in
+    let v = at-loop .loop in
     let r = c .before .is-slot-within in
-    rw (le-leb _ _ (c .before .before .before .before .before .before .if1 .left)) (rw (not-true (r .result) (c .if2 .taken)) at (every-turn slotWithin _ _ (v .i) _ (r .result) (c .before .before .before .loop-test .taken) (omega arith) (r .ensures) (v .inv .2)))
+    rw (le-leb _ _ (else1 .if1 .left))
+    (rw (not-true (r .result) (c .if2 .taken)) at
+    (every-turn slotWithin _ _ (v .i) _ (r .result) (in-loop .loop-test .taken) (omega arith) (r .ensures)
+    (v .inv .2)))
 
 add-i : tie.Need-add-i Inv-loop μ-loop
 add-i c = omega arith
@@ -49,13 +55,24 @@ loop-less c = omega arith
 
 loop-again : tie.Need-loop-again Inv-loop μ-loop
 loop-again c =
-    let v = c .before .before .before .before .loop in
-    let r = c .before .is-slot-within in
-    (v .inv .0, omega arith, rw (not-false (r .result) (c .if2 .left)) at (every-turn slotWithin _ _ (v .i) _ (r .result) (c .before .before .before .loop-test .taken) (omega arith) (r .ensures) (v .inv .2)))
+    let in-loop = c .before .before .before in
+    let at-loop = in-loop .before in
+    let v = at-loop .loop in
+    let r = c .before .is-slot-within in (
+      v .inv .0,
+      omega arith,
+      rw (not-false (r .result) (c .if2 .left)) at
+          (every-turn slotWithin _ _ (v .i) _ (r .result) (in-loop .loop-test .taken) (omega arith) (r .ensures)
+          (v .inv .2)),
+    )
 
 returns-3 : tie.Need-returns-3 Inv-loop μ-loop
 unfolding rowWithin
-returns-3 c = rw (le-leb _ _ (c .before .before .before .if1 .left)) (every-done slotWithin _ _ (c .before .loop .i) (c .loop-test .left) (c .before .loop .inv .2))
+returns-3 c =
+    let at-loop = c .before in
+    let else1 = at-loop .before .before in
+    rw (le-leb _ _ (else1 .if1 .left))
+    (every-done slotWithin _ _ (at-loop .loop .i) (c .loop-test .left) (at-loop .loop .inv .2))
 
 pub is-row-within-spec : {M : Type 1} → statement M
 is-row-within-spec =

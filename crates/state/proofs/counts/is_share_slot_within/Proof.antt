@@ -19,7 +19,14 @@ share-keys-requires c κs = search needs
 
 returns-3 : tie.Need-returns-3
 unfolding sharesWithin
-returns-3 c = rw (not-false (c .before .before .before .before .before .args .s .held) (c .before .before .before .if1 .left), le-leb _ _ (c .before .if2 .left), ← c .share-keys .ensures)
+returns-3 c =
+    let else1 = c .before .before .before in
+    let start = else1 .before .before in
+    rw (
+      not-false (start .args .s .held) (else1 .if1 .left),
+      le-leb _ _ (c .before .if2 .left),
+      ← c .share-keys .ensures,
+    )
 
 pub is-share-slot-within-spec : {M : Type 1} → statement M
 is-share-slot-within-spec = tie.close (tie.spec returns returns-2 share-keys-requires returns-3)

@@ -15,7 +15,10 @@ returns-2 c = rw (not-false (c .before .before .before .before .args .s .held) (
 
 returns-3 : tie.Need-returns-3
 unfolding slotWithin
-returns-3 c = rw (not-false (c .before .before .before .before .before .args .s .held) (c .before .before .before .if1 .left), le-leb _ _ (c .before .if2 .left))
+returns-3 c =
+    let else1 = c .before .before .before in
+    let start = else1 .before .before in
+    rw (not-false (start .args .s .held) (else1 .if1 .left), le-leb _ _ (c .before .if2 .left))
 
 pub is-slot-within-spec : {M : Type 1} → statement M
 is-slot-within-spec = tie.close (tie.spec returns returns-2 returns-3)

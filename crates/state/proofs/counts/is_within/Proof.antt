@@ -23,21 +23,57 @@ returns c = rw (← c .before .is-config-within .ensures, not-true (c .before .i
 
 returns-2 : tie.Need-returns-2
 unfolding isWithin
-returns-2 c = rw (← c .before .before .before .before .is-config-within .ensures, not-false (c .before .before .before .before .is-config-within .result) (c .before .before .before .if1 .left), lt-leb _ _ (c .if2 .taken))
+returns-2 c =
+    let else1 = c .before .before .before in
+    let after-is-config-within = else1 .before in
+    rw (
+      ← after-is-config-within .is-config-within .ensures,
+      not-false (after-is-config-within .is-config-within .result) (else1 .if1 .left),
+      lt-leb _ _ (c .if2 .taken),
+    )
 
 are-records-within-requires : tie.Need-are-records-within-requires
-are-records-within-requires c κs = few _ (sym (c .before .before .before .before .before .is-config-within .ensures) ∙ not-false _ (c .before .before .before .before .if1 .left))
+are-records-within-requires c κs =
+    let else1 = c .before .before .before .before in
+    let after-is-config-within = else1 .before in
+    few _ (sym (after-is-config-within .is-config-within .ensures) ∙ not-false _ (else1 .if1 .left))
 
 returns-3 : tie.Need-returns-3
 unfolding isWithin
-returns-3 c = rw (← c .before .before .before .before .before .before .before .is-config-within .ensures, not-false (c .before .before .before .before .before .before .before .is-config-within .result) (c .before .before .before .before .before .before .if1 .left), le-leb _ _ (c .before .before .before .if2 .left), ← c .before .are-records-within .ensures, not-true (c .before .are-records-within .result) (c .if3 .taken))
+returns-3 c =
+    let after-are-records-within = c .before in
+    let else2 = after-are-records-within .before .before in
+    let else1 = else2 .before .before .before in
+    let after-is-config-within = else1 .before in
+    rw (
+      ← after-is-config-within .is-config-within .ensures,
+      not-false (after-is-config-within .is-config-within .result) (else1 .if1 .left),
+      le-leb _ _ (else2 .if2 .left),
+      ← after-are-records-within .are-records-within .ensures,
+      not-true (after-are-records-within .are-records-within .result) (c .if3 .taken),
+    )
 
 are-shares-within-requires : tie.Need-are-shares-within-requires
-are-shares-within-requires c κs = few _ (sym (c .before .before .before .before .before .before .before .before .is-config-within .ensures) ∙ not-false _ (c .before .before .before .before .before .before .before .if1 .left))
+are-shares-within-requires c κs =
+    let else1 = c .before .before .before .before .before .before .before in
+    let after-is-config-within = else1 .before in
+    few _ (sym (after-is-config-within .is-config-within .ensures) ∙ not-false _ (else1 .if1 .left))
 
 returns-4 : tie.Need-returns-4
 unfolding isWithin
-returns-4 c = rw (← c .before .before .before .before .before .before .before .before .before .is-config-within .ensures, not-false (c .before .before .before .before .before .before .before .before .before .is-config-within .result) (c .before .before .before .before .before .before .before .before .if1 .left), le-leb _ _ (c .before .before .before .before .before .if2 .left), ← c .before .before .before .are-records-within .ensures, not-false (c .before .before .before .are-records-within .result) (c .before .before .if3 .left), ← c .are-shares-within .ensures)
+returns-4 c =
+    let after-are-records-within = c .before .before .before in
+    let else2 = after-are-records-within .before .before in
+    let else1 = else2 .before .before .before in
+    let after-is-config-within = else1 .before in
+    rw (
+      ← after-is-config-within .is-config-within .ensures,
+      not-false (after-is-config-within .is-config-within .result) (else1 .if1 .left),
+      le-leb _ _ (else2 .if2 .left),
+      ← after-are-records-within .are-records-within .ensures,
+      not-false (after-are-records-within .are-records-within .result) (c .before .before .if3 .left),
+      ← c .are-shares-within .ensures,
+    )
 
 pub is-within-spec : {M : Type 1} → statement M
 is-within-spec =

@@ -30,7 +30,9 @@ small e h = by-flag (e .«has_keys») (e .keys .count) h
     by-flag false n h = omega arith
 
 abbrev Inv-loop : tie.InvT-loop
-Inv-loop count signers total₀ i₀ total i = (length signers ≡ 10) × (i ≤ count) × (total ≤ 16 * i) × (total + sum (map keyCount (drop i (take count signers))) ≡ sum (map keyCount (take count signers)))
+Inv-loop count signers total₀ i₀ total i =
+    (length signers ≡ 10) × (i ≤ count) × (total ≤ 16 * i)
+    × (total + sum (map keyCount (drop i (take count signers))) ≡ sum (map keyCount (take count signers)))
 
 abbrev μ-loop : tie.MeasureT-loop
 μ-loop count signers total₀ i₀ total i = count - i
@@ -50,9 +52,17 @@ key-count-requires c κs = tt
 add-total : tie.Need-add-total Inv-loop μ-loop
 unfolding entries
 add-total c =
-    let v = c .before .before .before .loop in
-    let g = c .before .before .before .before .before .args .g in
-    omega (arith, c .key-count .ensures, small _ (live-at entryWithin (g .signers) (g .count) (v .i) zero-entry (c .before .before .loop-test .taken) (omega arith) (c .before .before .before .before .before .pre .1)))
+    let at-loop = c .before .before .before in
+    let start = at-loop .before .before in
+    let v = at-loop .loop in
+    let g = start .args .g in
+    omega (
+      arith,
+      c .key-count .ensures,
+      small _
+          (live-at entryWithin (g .signers) (g .count) (v .i) zero-entry (c .before .before .loop-test .taken)
+          (omega arith) (start .pre .1)),
+    )
 
 add-i : tie.Need-add-i Inv-loop μ-loop
 add-i c = omega arith
@@ -63,17 +73,32 @@ loop-less c = omega arith
 loop-again : tie.Need-loop-again Inv-loop μ-loop
 unfolding entries
 loop-again c =
-    let v = c .before .before .before .loop in
-    let g = c .before .before .before .before .before .args .g in (
+    let in-loop = c .before .before in
+    let at-loop = in-loop .before in
+    let start = at-loop .before .before in
+    let v = at-loop .loop in
+    let g = start .args .g in (
       v .inv .0,
       omega arith,
-      omega (arith, c .key-count .ensures, small _ (live-at entryWithin (g .signers) (g .count) (v .i) zero-entry (c .before .before .loop-test .taken) (omega arith) (c .before .before .before .before .before .pre .1))),
-      sum-turn keyCount (g .signers) (g .count) (v .i) zero-entry (v .total) (c .key-count .result) (c .before .before .loop-test .taken) (omega arith) (c .key-count .ensures) (v .inv .3),
+      omega (
+        arith,
+        c .key-count .ensures,
+        small _
+            (live-at entryWithin (g .signers) (g .count) (v .i) zero-entry (in-loop .loop-test .taken) (omega arith)
+            (start .pre .1)),
+      ),
+      sum-turn keyCount (g .signers) (g .count) (v .i) zero-entry (v .total) (c .key-count .result)
+          (in-loop .loop-test .taken) (omega arith) (c .key-count .ensures) (v .inv .3),
     )
 
 returns : tie.Need-returns Inv-loop μ-loop
 unfolding entries
-returns c = let g = c .before .before .before .args .g in sum-done keyCount (g .signers) (g .count) (c .before .loop .i) (c .before .loop .total) (c .loop-test .left) (c .before .loop .inv .3)
+returns c =
+    let at-loop = c .before in
+    let start = at-loop .before .before in
+    let g = start .args .g in
+    sum-done keyCount (g .signers) (g .count) (at-loop .loop .i) (at-loop .loop .total) (c .loop-test .left)
+    (at-loop .loop .inv .3)
 
 pub key-total-spec : {M : Type 1} → statement M
 key-total-spec =

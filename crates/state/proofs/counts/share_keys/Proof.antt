@@ -20,7 +20,9 @@ mapped [] = refl
 mapped (x ∷ xs) = ap (λ (l : List ℕ). x ∷ l) (mapped xs)
 
 abbrev Inv-loop : tie.InvT-loop
-Inv-loop count counts total₀ i₀ total i = (length counts ≡ 16) × (i ≤ count) × (total ≤ 255 * i) × (total + sum (map self (drop i (take count counts))) ≡ sum (map self (take count counts)))
+Inv-loop count counts total₀ i₀ total i =
+    (length counts ≡ 16) × (i ≤ count) × (total ≤ 255 * i)
+    × (total + sum (map self (drop i (take count counts))) ≡ sum (map self (take count counts)))
 
 abbrev μ-loop : tie.MeasureT-loop
 μ-loop count counts total₀ i₀ total i = count - i
@@ -45,14 +47,23 @@ loop-less c = omega arith
 
 loop-again : tie.Need-loop-again Inv-loop μ-loop
 loop-again c =
+    let start = c .before .before .before in
     let v = c .before .loop in
-    let s = c .before .before .before .args .s in
-    (v .inv .0, omega arith, omega (arith, counts-bytes s _ (c .before .before .before .good .0) (v .i)), sum-turn self (s .«key_counts») (s .count) (v .i) 0 (v .total) _ (c .loop-test .taken) (omega arith) refl (v .inv .3))
+    let s = start .args .s in (
+      v .inv .0,
+      omega arith,
+      omega (arith, counts-bytes s _ (start .good .0) (v .i)),
+      sum-turn self (s .«key_counts») (s .count) (v .i) 0 (v .total) _ (c .loop-test .taken) (omega arith) refl
+          (v .inv .3),
+    )
 
 returns : tie.Need-returns Inv-loop μ-loop
 returns c =
-    let s = c .before .before .before .args .s in
-    sum-done self (s .«key_counts») (s .count) (c .before .loop .i) (c .before .loop .total) (c .loop-test .left) (c .before .loop .inv .3) ∙ ap sum (mapped (take (s .count) (s .«key_counts»)))
+    let at-loop = c .before in
+    let start = at-loop .before .before in
+    let s = start .args .s in
+    sum-done self (s .«key_counts») (s .count) (at-loop .loop .i) (at-loop .loop .total) (c .loop-test .left)
+    (at-loop .loop .inv .3) ∙ ap sum (mapped (take (s .count) (s .«key_counts»)))
 
 pub share-keys-spec : {M : Type 1} → statement M
 share-keys-spec =
