@@ -1,8 +1,26 @@
 /*
  * RoundCabinet's signing coordinator: what fire.rs of xoloki/wsts does when it gathers nonces and signature shares, rewritten in Rattle and proved.
  * This header is the manual of libroundcabinet.a. "01" is the paper that the coordinator is built from; its numbers are the RC_REFUSED_... below.
+ * docs/TRUST.md says what is believed and not proved, docs/HOSTS.md how a host is built, hosts/examples/round.c is a whole round in C.
  *
- * A host holds three buffers and lends them to every call:
+ * SET-UP, in this order:
+ *   1. rc_commission               who the signers are, their keys, thresholds and timeouts;
+ *   2. rc_set_coordinator_key(1)   where packets' seals are verified: without it every packet is refused with 13;
+ *      rc_set_group_key(1)         without it every start is refused with 10;
+ *   3. rc_take_results             who ended key generation: WITHOUT RESULTS EVERY RESPONSE DOES NOTHING, and no error says so. After rc_reset again.
+ *
+ * A ROUND. BOTH stands for: state, RC_STATE_LENGTH, store, RC_STORE_LENGTH; ALL for these and: out, RC_ANSWER_LENGTH.
+ *   if (!rc_is_idle(BOTH)) return;                                           a start belongs into Idle alone
+ *   rc_answer a = rc_start_signing_round(ALL, now(), message, message_length, RC_SCHNORR, NULL, 0, 0, 0);
+ *   for (;;) {
+ *       save(state, store, out, a);                                          in one transaction, before anything leaves
+ *       if (a.class_ == RC_PACKET) seal_and_send(out, a.length);
+ *       if (a.class_ == RC_JOB) a = rc_aggregated(BOTH, a.mark && aggregate(out, a.length)), save(state, store, out, a);
+ *       if (rc_is_idle(BOTH)) return;                                        signed
+ *       a = receive(packet, &length) ? rc_process_message(ALL, now(), is_sealed_well(packet, length), packet, length) : rc_process_timeout(ALL, now());
+ *   }
+ *
+ * BUFFERS. A host holds three and lends them to every call:
  *   state   RC_STATE_LENGTH bytes, the coordinator itself. Opaque; write it to disk as it is, and load it again.
  *   store   RC_STORE_LENGTH bytes, what signers sent. Write it to disk beside the state, in one transaction: each without the other is worth nothing.
  *   out     RC_ANSWER_LENGTH bytes, for the packet, the result or the job that a call writes. Scratch: nothing is read from it.
@@ -13,14 +31,48 @@
  * only what is said below. The answer's numbers are all in the promise: first and second are 0 where values does not count them.
  *
  * What the host vouches for, because nothing here can see it:
- *   - pointers are not null and the lengths beside them are true, the buffers of one call do not overlap, and one caller at a time uses them;
+ *   - the lengths beside pointers are true, the buffers of one call do not overlap, and one caller at a time uses them. state, store and out are not NULL;
+ *     what is only read (ended, message, root, packet, source) may be NULL where its length is 0;
  *   - nobody else writes state or store between calls;
  *   - the verdict on a packet's seal (signature), and that other points and scalars than identity and generator are what they claim to be;
  *   - clock readings in nanoseconds that do not go back (a reading that does counts as no time elapsed);
- *   - it signs what it sends, and sends a packet only after state and store are safe.
+ *   - it signs what it sends, and sends a packet only after state and store are safe;
+ *   - two duties that fire.rs does not have: a share's iteration, and requests played back (see rc_process);
+ *   - enough stack (RC_STACK below).
+ *
+ * THREADS. The library has no data of its own that can be written, and no locks: separate buffers may be used from separate threads at once (hosts/c/threads.c
+ * has eight; it was run under a thread sanitizer too). One coordinator's buffers have one caller at a time.
+ *
+ * DEBUGGERS. The archive has no unwind tables, so a backtrace ends at the library's call. It calls nobody back, so nothing is thrown through it.
  *
  * Bytes of state that no call can have left (another version, another file, half of a write) are known as such: every call but commissioning refuses them
  * with RC_REFUSED_STATE and leaves them as they are. No sum of the bytes is kept: a number that was changed on disk is another state, not an error.
+ *
+ * PACKETS, whole. Numbers are little-endian. 32 bytes of header:
+ *     byte 0   kind                         bytes 4 to 7    signer id          bytes 16 to 23  sign id
+ *     byte 1   signature type               bytes 8 to 15   dkg id             bytes 24 to 31  iteration
+ *     bytes 2 and 3  how many parts
+ * then for each part its offset and its length, 4 bytes each. Offsets count from the packet's first byte. The parts tile the rest: the first begins where
+ * the pairs end, each next one where the last ended, and the last ends the packet. A packet without parts has 32 bytes. No byte may be left over: a reader
+ * is given the packet's exact length. Fields that a kind does not have are 0, or the packet is refused with 8:
+ *
+ *     kind                        from          fields                    parts
+ *     1  nonce request            coordinator   type, three ids           message, root
+ *     2  nonce response           signer        signer, three ids         message, key ids (4 bytes each), nonces (66 each: D and E, 33 each)
+ *     3  share request            coordinator   type, three ids           message, root, then each responder's whole packet of kind 2
+ *     4  share response           signer        signer, three ids         one for each share: its id (4), z_i (32), key ids (4 each)
+ *     5  key generation begins    coordinator   dkg id                    none
+ *     6  another message of it    signer        signer, dkg id            none
+ *     7  another message of it    coordinator   dkg id                    none
+ *     32 job                      to the host   type, three ids           message, root, key ids, nonces, one for each share as in 4
+ *     33 nonce timeout            to the host   none                      who has answered, who is struck (signer ids, 4 bytes each)
+ *     34 insufficient signers     to the host   none                      who is struck
+ *
+ * So kinds 2 and 4 have type 0, whatever is signed. A root has 32 bytes where the type is 3, else 0. Even kinds up to 6 are a signer's. In 3 and 32 lists
+ * are each signer's own, joined in ascending order of signers. A share's id is its party's, as the signer says it (WSTS's first form: the key; its second: the
+ * signer); it is kept for the aggregator and compared with nothing. A point has 33 bytes: identity is 33 zero bytes, the generator G is hexadecimal
+ * 02 79BE667EF9DCBBAC55A06295CE870B07029BFCDB2DCE28D959F2815B16F81798; a response with either of them as a D or an E is dropped whole, as fire.rs does it.
+ * Limits (9): a message of 256 bytes; 16 key ids and 16 nonces to a response; 16 shares with 16 key ids in all; 10 nested responses.
  */
 #ifndef ROUNDCABINET_H
 #define ROUNDCABINET_H
@@ -31,6 +83,22 @@
 #ifdef __cplusplus
 extern "C" {
 #endif
+
+/* For compilers that know them: arguments that may not be NULL, by their places, and answers that are not to be thrown away. */
+#if defined(__GNUC__) || defined(__clang__)
+#define RC_LENT(...) __attribute__((nonnull(__VA_ARGS__), warn_unused_result))
+#define RC_ANSWERS __attribute__((warn_unused_result))
+#else
+#define RC_LENT(...)
+#define RC_ANSWERS
+#endif
+
+/* This header's version: 65536 for each major, 256 for each minor, 1 for each patch number. rc_version() says the linked archive's; a host that finds
+ * another one has a header and an archive that do not belong together. RC_STATE_VERSION stands in bytes 8 to 15 of a saved state; a state of another version
+ * is refused with RC_REFUSED_STATE. */
+#define RC_VERSION 256u
+#define RC_STATE_VERSION 1
+uint32_t rc_version(void) RC_ANSWERS;
 
 /* Lengths. */
 #define RC_STATE_LENGTH 3200
@@ -43,7 +111,20 @@ extern "C" {
 #define RC_SIGNER_PLACES 11
 #define RC_KEY_PLACES 17
 
-/* Classes of answers. */
+/* Stack: how much is enough for each call, in bytes, whatever path it takes (retry, job and refusals included). It is counted from where the caller's frame
+ * ends: arguments that lie on the stack are in it, the caller's own frames and signal handlers are not. The deepest is known over all paths, from the
+ * archive's instructions (hosts/c/depth.py: 79840, 20704, 38672 and 7920 bytes), and at least a quarter of that was added. hosts/c/stack.c makes each call on
+ * a stack of exactly this size. A frame of more than a page touches each page from the top down: on a stack that is too small and has a guard page below it
+ * the call dies there, and writes to nobody's memory. A thread of 64 KiB is too small for rc_process, and would die only once a well-formed packet comes. */
+#define RC_STACK_PROCESS (100 * 1024)   /* rc_process, rc_process_message */
+#define RC_STACK_COMMISSION (28 * 1024) /* rc_commission */
+#define RC_STACK_CALL (50 * 1024)       /* every other call that is lent a state */
+#define RC_STACK_PACKET (12 * 1024)     /* rc_read_packet, rc_packet_part, rc_version and the writers: what is lent no state */
+#define RC_STACK RC_STACK_PROCESS       /* any call */
+
+/* Classes of answers. RC_NOTHING says "recorded" and "dropped" alike, as fire.rs does: a response that counts, one that came twice, one of a struck signer.
+ * What tells them apart is the state: a call that recorded something has changed its bytes, one that dropped its packet has changed neither state nor store.
+ * And on a COPY of state and store rc_process_timeout, with a late clock while nonces are gathered, names who has answered (kind 33). */
 #define RC_NOTHING 0u /* nothing to do */
 #define RC_PACKET 1u  /* out holds a packet to be sealed and sent to the signers */
 #define RC_JOB 2u     /* out holds a job for the aggregator; answer it with rc_aggregated */
@@ -96,6 +177,55 @@ extern "C" {
 #define RC_REFUSED_NOT_IDLE 24          /* results of key generation are taken in Idle alone */
 #define RC_REFUSED_ENDED 25             /* more than 10 ended signers, or one that is not configured */
 
+/* A number of a refusal in words, and a kind of packet. For logs; the crate for Rust says the same words. */
+static inline const char *rc_text(uint32_t number) {
+    switch (number) {
+    case 0: return "nothing is refused";
+    case RC_REFUSED_SIGNERS: return "more than 10 signers, or an id twice";
+    case RC_REFUSED_KEYS: return "a key set of more than 16 keys, or a key twice in it";
+    case RC_REFUSED_TOTAL: return "the key sets have more keys than num_keys";
+    case RC_REFUSED_STATE: return "the state is not commissioned or no call left it, or the store is too short";
+    case RC_REFUSED_JOB_OUT: return "a job is out: answer it or reset first";
+    case RC_REFUSED_NO_JOB: return "no job is out";
+    case RC_REFUSED_ROOM: return "the answer buffer is too short";
+    case RC_REFUSED_LAYOUT: return "the packet is not laid out as it must be";
+    case RC_REFUSED_LIMIT: return "a message or a list is over its limit";
+    case RC_REFUSED_GROUP_KEY: return "no group key is held";
+    case RC_REFUSED_MOVE: return "the state does not allow a start; message and sign id have changed";
+    case RC_REFUSED_NO_RECORD: return "a timeout fired, and nobody has answered the current message";
+    case RC_REFUSED_COORDINATOR_KEY: return "seals are verified, and no coordinator key is held";
+    case RC_REFUSED_SEAL: return "the signer is unknown, or the seal is not good";
+    case RC_REFUSED_DKG_BEGIN: return "another key generation was begun";
+    case RC_REFUSED_DKG_ID: return "not the current dkg id";
+    case RC_REFUSED_SIGN_ID: return "not the current sign id";
+    case RC_REFUSED_ITERATION: return "not the current iteration";
+    case RC_REFUSED_MESSAGES: return "four messages have been answered already, and this is a fifth";
+    case RC_REFUSED_PUBLIC_KEY: return "the signer has no public key";
+    case RC_REFUSED_NO_KEYS: return "the signer has no key set";
+    case RC_REFUSED_WRONG_KEYS: return "the signer shared for other keys than its own";
+    case RC_REFUSED_AGGREGATION: return "the aggregator failed";
+    case RC_REFUSED_NOT_IDLE: return "results of key generation are taken in Idle alone";
+    case RC_REFUSED_ENDED: return "more than 10 ended signers, or one that is not configured";
+    default: return "no number of this library's";
+    }
+}
+
+static inline const char *rc_kind_text(uint32_t kind) {
+    switch (kind) {
+    case RC_KIND_NONCE_REQUEST: return "nonce request";
+    case RC_KIND_NONCE_RESPONSE: return "nonce response";
+    case RC_KIND_SHARE_REQUEST: return "share request";
+    case RC_KIND_SHARE_RESPONSE: return "share response";
+    case RC_KIND_DKG_BEGIN: return "key generation begins";
+    case RC_KIND_DKG_SIGNER: return "key generation, a signer's";
+    case RC_KIND_DKG_COORDINATOR: return "key generation, a coordinator's";
+    case RC_KIND_JOB: return "job";
+    case RC_KIND_NONCE_TIMEOUT: return "nonce timeout";
+    case RC_KIND_INSUFFICIENT_SIGNERS: return "insufficient signers";
+    default: return "no kind of this library's";
+    }
+}
+
 /* What a call answers. */
 typedef struct rc_answer {
     uint32_t class_; /* RC_NOTHING .. RC_ERROR */
@@ -122,8 +252,10 @@ typedef struct rc_signer {
     uint32_t reserved;
 } rc_signer;
 
-/* threshold limits exclusion: a share timeout retries while the keys of the signers left are at least that many. sign_threshold ends nonce
- * gathering. verify_packet_sigs: where it is not 0, packets are asked 13 and 14. The first signer_count of signers count, in any order. */
+/* The first signer_count of signers count, in any order. num_keys is how many keys there are: the key sets may not have more (3). threshold limits exclusion: a
+ * share timeout retries while num_keys less the keys of the struck is at least that many. sign_threshold ends nonce gathering: so many different keys have
+ * answered. verify_packet_sigs: where it is not 0, packets are asked 13 and 14. Kept beside them, and read by nothing yet, are num_signers (fire.rs has it; it
+ * need not be signer_count), dkg_threshold and the three dkg timeouts, which are key generation's. */
 typedef struct rc_config {
     uint32_t num_signers;
     uint32_t num_keys;
@@ -142,15 +274,15 @@ typedef struct rc_config {
 
 /* Commissions a coordinator: Idle, ids 0, nothing held, nobody struck; the whole lent store becomes zeros. Whatever state held is gone. Asked 1, 2
  * and 3; a state buffer shorter than RC_STATE_LENGTH is refused with 4. After 1 to 3 the state is saved as uncommissioned. */
-rc_answer rc_commission(uint8_t *state, size_t state_length, uint8_t *store, size_t store_length, rc_config config);
+rc_answer rc_commission(uint8_t *state, size_t state_length, uint8_t *store, size_t store_length, rc_config config) RC_LENT(1, 3);
 
 /* The host holds the coordinator's key, or the group's, from now on (held not 0), or no more. The bytes of keys stay with the host. Asked 4, 5. */
-rc_answer rc_set_coordinator_key(uint8_t *state, size_t state_length, const uint8_t *store, size_t store_length, uint8_t held);
-rc_answer rc_set_group_key(uint8_t *state, size_t state_length, const uint8_t *store, size_t store_length, uint8_t held);
+rc_answer rc_set_coordinator_key(uint8_t *state, size_t state_length, const uint8_t *store, size_t store_length, uint8_t held) RC_LENT(1, 3);
+rc_answer rc_set_group_key(uint8_t *state, size_t state_length, const uint8_t *store, size_t store_length, uint8_t held) RC_LENT(1, 3);
 
 /* Key generation's results: its id, and the signers that ended it; they replace the earlier ones. Asked 4, 5, 24, 25. */
 rc_answer rc_take_results(uint8_t *state, size_t state_length, const uint8_t *store, size_t store_length, uint64_t dkg_id, const uint32_t *ended,
-                          size_t ended_count);
+                          size_t ended_count) RC_LENT(1, 3);
 
 /* Starts a signing round: RC_PACKET, a nonce request, in out. sign_id counts where sign_id_given is not 0; otherwise it is the last one plus 1. root:
  * 32 bytes where the type is RC_TAPROOT_ROOT; beside another type it isn't looked at, whatever its length. Asked 4, 5, 7, 9, 10, 11; a type
@@ -158,41 +290,51 @@ rc_answer rc_take_results(uint8_t *state, size_t state_length, const uint8_t *st
  *
  * WARNING. A start that is refused with 11 has already replaced message and sign id, as fire.rs does it. While shares are gathered, a start of
  * another type makes signers that answer in time look silent: their shares get 17, and the share timeout strikes them. A start of the same type (and
- * root) is taken there, and takes the place of the round in hand. Ask rc_can_move_to first: with 1 it says yes in Idle and, while signing, nowhere else. */
+ * root) is taken there, and takes the place of the round in hand, whose shares then come to nothing. So start in Idle alone: ask rc_is_idle first, and not
+ * rc_can_move_to with 11, which says yes while shares of that type are gathered. To give a round up, reset first. */
 rc_answer rc_start_signing_round(uint8_t *state, size_t state_length, const uint8_t *store, size_t store_length, uint8_t *out, size_t out_length,
                                  uint64_t clock, const uint8_t *message, size_t message_length, uint8_t signature_type, const uint8_t *root,
-                                 size_t root_length, uint8_t sign_id_given, uint64_t sign_id);
+                                 size_t root_length, uint8_t sign_id_given, uint64_t sign_id) RC_LENT(1, 3, 5);
 
 /* A packet has come. verdict: not 0 where its seal is good. Two things that fire.rs does not look at are the host's: a share's iteration (a share from
- * before a retry, heard late, is recorded), and whether a nonce request that comes in Idle is one of the coordinator's own, played back (it starts that
- * round). rc_process tests the timeout first, as rc_process_timeout does; where that yields anything, the packet is dropped. rc_process_message does
- * not. A packet that is refused with 8 or 9 is refused before any timeout. Asked 4, 5, 7, 8, 9, then 12, then 13 and 14, then by the state: 10, 15; 16
- * to 19, 10; 16, 17, 20 to 22. Answers RC_NOTHING; RC_PACKET, a share request or, in Idle, a nonce request; RC_JOB; and what rc_process_timeout answers. */
+ * before a retry, heard late, is recorded, and the sum is wrong: hand on a share only where its iteration is that of the request that is out), and whether a
+ * nonce request that comes in Idle is one of the coordinator's own, played back (it starts that round: hand on no coordinator's packet, unless this host stands
+ * by for another coordinator). rc_process tests the timeout first, as rc_process_timeout does; where that yields anything, the packet is dropped.
+ * rc_process_message does not. A packet that is refused with 8 or 9 is refused before any timeout. Asked 4, 5, 7, 8, 9, then 12, then 13 and 14, then by the
+ * state: 10, 15; 16 to 19, 10; 16, 17, 20 to 22.
+ * Answers RC_NOTHING; RC_PACKET, a share request or, in Idle, a nonce request; RC_JOB; and what rc_process_timeout answers. */
 rc_answer rc_process(uint8_t *state, size_t state_length, uint8_t *store, size_t store_length, uint8_t *out, size_t out_length, uint64_t clock,
-                     uint8_t verdict, const uint8_t *packet, size_t packet_length);
+                     uint8_t verdict, const uint8_t *packet, size_t packet_length) RC_LENT(1, 3, 5);
 rc_answer rc_process_message(uint8_t *state, size_t state_length, uint8_t *store, size_t store_length, uint8_t *out, size_t out_length,
-                             uint64_t clock, uint8_t verdict, const uint8_t *packet, size_t packet_length);
+                             uint64_t clock, uint8_t verdict, const uint8_t *packet, size_t packet_length) RC_LENT(1, 3, 5);
 
 /* No packet: only the timeout is tested. Nonces late: RC_RESULT, kind 33 in out, or 12: two lists, fire.rs's sign_wait_signer_ids of the current
  * message's record, which while nonces are gathered names the signers that HAVE answered it, and the struck. Shares late: all signers that are waited
  * for are struck; then RC_PACKET, a nonce request (the retry), or RC_RESULT, kind 34 in out (the struck), where too few keys are left. Asked 4, 5, 7,
  * 12. */
 rc_answer rc_process_timeout(uint8_t *state, size_t state_length, const uint8_t *store, size_t store_length, uint8_t *out, size_t out_length,
-                             uint64_t clock);
+                             uint64_t clock) RC_LENT(1, 3, 5);
 
 /* The aggregator's answer to the job that is out. ok not 0: RC_RESULT with number 0, first the kind of signature (0 sign, 1 schnorr, 2 taproot), and
  * Idle. ok 0: RC_RESULT with number 23; nobody is waited for, the state stays. Asked 4, 6, 23. */
-rc_answer rc_aggregated(uint8_t *state, size_t state_length, const uint8_t *store, size_t store_length, uint8_t ok);
+rc_answer rc_aggregated(uint8_t *state, size_t state_length, const uint8_t *store, size_t store_length, uint8_t ok) RC_LENT(1, 3);
 
 /* Idle; ended signers, records, shares, clocks and a job that is out are forgotten. Struck signers, ids, message and held keys stay. Asked 4. */
-rc_answer rc_reset(uint8_t *state, size_t state_length, const uint8_t *store, size_t store_length);
+rc_answer rc_reset(uint8_t *state, size_t state_length, const uint8_t *store, size_t store_length) RC_LENT(1, 3);
 
 /* Whether the coordinator may move to a state: RC_RESULT, first 1 yes, 0 no. next: 0 to 14 in the Rust's order (0 Idle, 11 NonceRequest, 12 NonceGather,
  * 13 SigShareRequest, 14 SigShareGather). With 11 it says whether a start would get 11; with 1 (DkgPublicDistribute) whether the coordinator is idle.
  * Type and root are those of a signing state (11 to 14). Asked 4, 5; a state above 14, a type above 3, or RC_TAPROOT_ROOT with a root that
  * has not 32 bytes, is refused with 8 before, the type whatever the state. */
 rc_answer rc_can_move_to(uint8_t *state, size_t state_length, const uint8_t *store, size_t store_length, uint8_t next, uint8_t signature_type,
-                         const uint8_t *root, size_t root_length);
+                         const uint8_t *root, size_t root_length) RC_LENT(1, 3);
+
+/* Whether no round is in hand: 1 in Idle; 0 while nonces or shares are gathered or a job is out, and where the state is refused. The question to ask before
+ * a start. It is rc_can_move_to with 1 (DkgPublicDistribute), which fire.rs enters from Idle alone. */
+static inline int rc_is_idle(uint8_t *state, size_t state_length, const uint8_t *store, size_t store_length) {
+    const rc_answer a = rc_can_move_to(state, state_length, store, store_length, 1, RC_FROST, NULL, 0);
+    return a.class_ == RC_RESULT && a.first == 1;
+}
 
 /* A packet's header. refusal: 0, or RC_REFUSED_LAYOUT or RC_REFUSED_LIMIT where the packet is not taken, and then all else is 0. */
 typedef struct rc_packet {
@@ -213,14 +355,13 @@ typedef struct rc_part {
     uint64_t length;
 } rc_part;
 
-/* Reads a packet, from whomever: questions 8 and 9, and the header. Neither needs a coordinator. */
-rc_packet rc_read_packet(const uint8_t *packet, size_t packet_length);
+/* Reads a packet, from whomever: questions 8 and 9, and the header. packet_length is the packet's exact length: a byte more or less is 8. Neither this nor
+ * rc_packet_part needs a coordinator. */
+rc_packet rc_read_packet(const uint8_t *packet, size_t packet_length) RC_ANSWERS;
 
-/* Where part i (from 0) of a packet that is taken lies: always inside the packet; length 0 where there is no such part. Kinds 1 and 3: message, root, then
- * for 3 each responder's packet of kind 2. Kind 2: message, key ids (4 bytes each), nonces (66 each). Kind 4: a part for each share, its id (4), z_i (32)
- * and key ids. What only goes out (kinds 32 to 34) is not taken by the reader; its parts are found in the same way, by the pairs behind the header: 32
- * bytes of header (kind, type, the number of pairs in 2 bytes, the signer in 4, three ids in 8 each), then for each part its offset and its length in 4. */
-rc_part rc_packet_part(const uint8_t *packet, size_t packet_length, uint16_t i);
+/* Where part i (from 0) of a packet that is taken lies: always inside the packet; length 0 where there is no such part. Which parts a kind has says the table
+ * on the first page. What only goes out (kinds 32 to 34) is not taken by the reader; its parts are found in the same way, by the pairs behind the header. */
+rc_part rc_packet_part(const uint8_t *packet, size_t packet_length, uint16_t i) RC_ANSWERS;
 
 /*
  * Bench's writers, for a host that wants packets of its own: each writes one packet to the front of out, which has to have RC_ANSWER_LENGTH bytes
@@ -288,20 +429,20 @@ typedef struct rc_job_places {
 } rc_job_places;
 
 /* Kinds 1, 3 and 32. */
-rc_written rc_write_nonce_request(uint8_t *out, size_t out_length, rc_head head, const uint8_t *message, size_t message_length);
+rc_written rc_write_nonce_request(uint8_t *out, size_t out_length, rc_head head, const uint8_t *message, size_t message_length) RC_LENT(1);
 rc_written rc_write_signature_share_request(uint8_t *out, size_t out_length, rc_head head, const uint8_t *message, size_t message_length,
-                                            const uint8_t *source, size_t source_length, rc_responses places);
+                                            const uint8_t *source, size_t source_length, rc_responses places) RC_LENT(1);
 rc_written rc_write_job(uint8_t *out, size_t out_length, rc_head head, const uint8_t *message, size_t message_length, const uint8_t *source,
-                        size_t source_length, rc_job_places places);
+                        size_t source_length, rc_job_places places) RC_LENT(1);
 
 /* Kinds 5, 6 and 7. */
-rc_written rc_write_dkg_begin(uint8_t *out, size_t out_length, uint64_t dkg_id);
-rc_written rc_write_dkg_signer(uint8_t *out, size_t out_length, uint32_t signer_id, uint64_t dkg_id);
-rc_written rc_write_dkg_coordinator(uint8_t *out, size_t out_length, uint64_t dkg_id);
+rc_written rc_write_dkg_begin(uint8_t *out, size_t out_length, uint64_t dkg_id) RC_LENT(1);
+rc_written rc_write_dkg_signer(uint8_t *out, size_t out_length, uint32_t signer_id, uint64_t dkg_id) RC_LENT(1);
+rc_written rc_write_dkg_coordinator(uint8_t *out, size_t out_length, uint64_t dkg_id) RC_LENT(1);
 
 /* Kinds 33 and 34. */
-rc_written rc_write_nonce_timeout(uint8_t *out, size_t out_length, rc_signer_ids waiters, rc_signer_ids malicious);
-rc_written rc_write_insufficient_signers(uint8_t *out, size_t out_length, rc_signer_ids malicious);
+rc_written rc_write_nonce_timeout(uint8_t *out, size_t out_length, rc_signer_ids waiters, rc_signer_ids malicious) RC_LENT(1);
+rc_written rc_write_insufficient_signers(uint8_t *out, size_t out_length, rc_signer_ids malicious) RC_LENT(1);
 
 #ifdef __cplusplus
 }

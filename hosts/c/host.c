@@ -6,8 +6,6 @@
 #define STORE h->store, sizeof h->store
 #define OUT h->out, sizeof h->out
 
-enum { STATE_DKG_PUBLIC_DISTRIBUTE = 1 };
-
 static rc_config configuration(const group *g, host_timeouts timeouts) {
     rc_config c;
     memset(&c, 0, sizeof c);
@@ -54,12 +52,7 @@ static rc_answer sealing(host *h, rc_answer a) {
 
 void host_outstanding(host *h, const packet *p) { h->iteration = rc_read_packet(p->bytes, p->length).sign_iter_id; }
 
-/* That state may be entered from Idle and from no other. */
-int host_idle(host *h) {
-    static const uint8_t no_root[32];
-    const rc_answer may = rc_can_move_to(STATE, STORE, STATE_DKG_PUBLIC_DISTRIBUTE, RC_FROST, no_root, sizeof no_root);
-    return may.class_ == RC_RESULT && may.first == 1;
-}
+int host_idle(host *h) { return rc_is_idle(STATE, STORE); }
 
 rc_answer host_start(host *h, uint64_t clock, uint8_t type, span message, span root) {
     static const uint8_t no_root[32];

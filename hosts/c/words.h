@@ -6,8 +6,6 @@
 
 /* out is what the call wrote. */
 void answer_words(char *to, size_t room, const rc_answer *a, span out);
-const char *refusal_words(uint32_t number);
-const char *kind_words(uint32_t kind);
 /* Ids of 4 bytes each, with blanks between them; "none" where there is none. */
 void list_words(char *to, size_t room, span ids);
 

@@ -155,7 +155,7 @@ static int take(coordinator *c, const sealed *s) {
     const rc_answer a = host_take_untimed(&c->host, clock, s);
     char event[48];
     const rc_packet header = rc_read_packet(s->packet.bytes, s->packet.length);
-    snprintf(event, sizeof event, "%s of %u", kind_words(header.kind), header.signer_id);
+    snprintf(event, sizeof event, "%s of %u", rc_kind_text(header.kind), header.signer_id);
     tell(c, event, &a);
     return follow(c, clock, &a);
 }

@@ -36,8 +36,8 @@ pub record Buffers : Type 0 where
 abbrev pub counted : Buffers → Host
 counted b = record { struct = loaded (b .state); store = b .store }
 
--- a call of the header with its own arguments, as plain numbers and bytes: a start's are message, type, root, whether a sign id is given, sign id;
--- the move question's state, type, root
+-- a call of the header with its own arguments, as plain numbers and bytes: a start's are message, type, root, whether a sign id is given,
+-- sign id; the move question's are state, type, root
 pub data LibraryRequest : Type 0 where
   commission : RcConfig → LibraryRequest
   setKey : HeldKey → ℕ → LibraryRequest
@@ -106,8 +106,8 @@ abbrev pub Gave : LibraryRequest → ℕ → ℕ → List ℕ → List ℕ → L
 Gave q clock verdict state store out r state′ store′ out′ =
     Called (saves q state) (libraryTurn q clock verdict (length out) state store) state out r state′ store′ out′
 
--- a call that a host made on what it holds, just as the contracts say it: the answer, and what it holds after. It lends no more than it has, and
--- what it doesn't lend stays
+-- a call that a host made on what it holds, just as the contracts say it: the answer, and what it holds after. It lends no more than it
+-- has, and what it doesn't lend stays
 pub record Made (k : LibraryCall) (b : Buffers) (answer : A.Answer) (b′ : Buffers) : Type 0 where
   pub plain : RcAnswer
   pub out : List ℕ
@@ -134,12 +134,13 @@ Ran (k ∷ ks) b seen b′ =
     × Ran ks next rest b′
     × (seen ≡ record { answer = answer; malicious = maliciousIn (viewed (counted next)) } ∷ rest)
 
--- What C can say and 01's calls can't is refused outright: a type above 3, a state above 14, with type 3 a root of another length than 32 (8);
--- a state buffer that is too short (4).
+-- What C can say and 01's calls can't is refused outright: a type above 3, a state above 14, with type 3 a root of another length than 32
+-- (8); a state buffer that is too short (4).
 unfoldable pub outright : LibraryCall → Option ℕ
 outright k = cond (isSaid (k .request)) (cond (leb stateLength (k .state)) none (some 4)) (some 8)
 
--- the host's call that it is; one that is refused outright is, to 01, a call that lends nothing: it is refused, changes nothing, enters nothing
+-- the host's call that it is; one that is refused outright is, to 01, a call that lends nothing: it is refused, changes nothing, enters
+-- nothing
 abbrev pub hostCall : LibraryCall → HostCall
 hostCall k = record { request = requestOf (k .request); clock = k .clock; verdict = isYes (k .verdict); lent = k .lent; room = k .room }
 

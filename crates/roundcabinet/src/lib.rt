@@ -30,6 +30,7 @@ ghost use Rattle.packet_entry.specs.declared.Entry.the-variants.{Process, Proce
 ghost use Rattle.process.specs.Process.{receiveTurn};
 ghost use Rattle.process_timeout.specs.ProcessTimeout.{processTimeoutTurn};
 ghost use Rattle.calls.specs.declared.held_keys.HeldKey.the-variants as Which;
+ghost use Rattle.roundcabinet.specs.Version.{version};
 use interface::answers::RcAnswer;
 use interface::configs::RcConfig;
 use library_reader::RcPacket;
@@ -40,6 +41,16 @@ use library_writers::given::RcResponses;
 use library_writers::given::RcSignerIds;
 use library_writers::written;
 use library_writers::written::RcWritten;
+
+const VERSION: u32 = 256;
+
+// The version of the library that is linked, for a host to hold against the header's.
+#[no_mangle]
+pub extern "C" fn rc_version() -> u32
+    ensures { λ r. ⌜ r ≡ version ⌝ }
+{
+    VERSION
+}
 
 // A state buffer that is too short is refused with 4, and nothing is written.
 #[no_mangle]

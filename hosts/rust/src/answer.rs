@@ -11,7 +11,8 @@ use crate::signature::SignatureKind;
 /// Packets are copies: a host saves state and store before it sends what is in them.
 #[derive(Clone, Debug, PartialEq, Eq)]
 pub enum Answer {
-    /// Nothing to do.
+    /// Nothing to do: a packet was recorded, or dropped without a word, as fire.rs does it. No query tells the two apart; what does is
+    /// whether the call changed [`state`](crate::Coordinator::state) or [`store`](crate::Coordinator::store).
     Nothing,
     /// A packet to be sealed and sent to the signers: kind 1 or 3.
     Packet(Vec<u8>),

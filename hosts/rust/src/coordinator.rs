@@ -155,20 +155,22 @@ impl Coordinator {
     /// 5, 9, 10, 11.
     ///
     /// WARNING. A start that is refused with 11 has already replaced message and sign id, as fire.rs does it. While shares are gathered, a
-    /// start of another type makes signers that answer in time look silent: their shares get 17, and the share timeout leaves them out.
-    /// Ask [`can_move_to`](Coordinator::can_move_to) first.
+    /// start of another type makes signers that answer in time look silent: their shares get 17, and the share timeout leaves them out. A
+    /// start of the same type (and root) is taken there: it puts itself in the place of the round in hand, whose shares come to nothing.
+    /// So start where [`is_idle`](Coordinator::is_idle) says yes, and nowhere else; to give a round up, [`reset`](Coordinator::reset) first.
+    /// `can_move_to(Phase::NonceRequest(..))` is not the question to ask: while shares of that type are gathered it says yes.
     ///
     /// ```
-    /// use roundcabinet::{Config, Coordinator, Phase, Refusal, SignatureType};
+    /// use roundcabinet::{Config, Coordinator, Refusal, SignatureType};
     /// let mut coordinator = Coordinator::commission(&Config::new(0, 0, 0))?;
     /// let schnorr = SignatureType::Schnorr;
     /// assert_eq!(coordinator.start_signing_round(0, b"pay", schnorr, None), Err(Refusal::GroupKey));
     /// coordinator.set_group_key(true)?;
     /// assert_eq!(coordinator.start_signing_round(0, &[0; 257], schnorr, None), Err(Refusal::Limit));
     ///
-    /// assert!(coordinator.can_move_to(Phase::NonceRequest(schnorr))?);
+    /// assert!(coordinator.is_idle()?);
     /// coordinator.start_signing_round(0, b"pay", schnorr, Some(40))?;
-    /// assert!(!coordinator.can_move_to(Phase::NonceRequest(schnorr))?); // nonces are gathered
+    /// assert!(!coordinator.is_idle()?); // nonces are gathered
     /// # Ok::<(), Refusal>(())
     /// ```
     pub fn start_signing_round(
@@ -190,6 +192,11 @@ impl Coordinator {
     /// A packet has come. The timeout is tested first, as [`process_timeout`](Coordinator::process_timeout) does; where that yields anything,
     /// the packet is dropped. Refused with 4, 5, 8, 9, 12 to 14, and by the state: Idle 10 and 15, NonceGather 16 to 19 and 10. While shares
     /// are gathered, refused shares are an answer.
+    ///
+    /// Two things that fire.rs does not look at are the host's to see before it hands a packet on (this crate's first page says why): a
+    /// share's iteration, and whether a nonce request that comes in Idle is one of the coordinator's own, played back.
+    ///
+    /// [`Answer::Nothing`] says "recorded" and "dropped" alike, as fire.rs does.
     ///
     /// ```
     /// use roundcabinet::{Answer, Config, Coordinator, Refusal, Verdict};
@@ -268,7 +275,32 @@ impl Coordinator {
         done(ffi::reset(&mut self.buffers))
     }
 
-    /// Whether the coordinator may move to a phase. Changes nothing. Refused with 4 and 5.
+    /// Whether no round is in hand: the question to ask before a start. No while nonces or shares are gathered, and while a job is out.
+    /// Changes nothing. Refused with 4.
+    ///
+    /// ```
+    /// use roundcabinet::{Config, Coordinator, Refusal, SignatureType};
+    /// let mut coordinator = Coordinator::commission(&Config::new(0, 0, 0))?;
+    /// coordinator.set_group_key(true)?;
+    /// assert_eq!(coordinator.is_idle(), Ok(true));
+    /// coordinator.start_signing_round(0, b"pay", SignatureType::Frost, None)?;
+    /// assert_eq!(coordinator.is_idle(), Ok(false));
+    /// coordinator.reset()?;
+    /// assert_eq!(coordinator.is_idle(), Ok(true));
+    /// assert_eq!(Coordinator::load([0; 3200], [0; 52224]).is_idle(), Err(Refusal::State)); // no call left these
+    /// # Ok::<(), Refusal>(())
+    /// ```
+    pub fn is_idle(&mut self) -> Result<bool, Refusal> {
+        // fire.rs enters that state from Idle alone.
+        match self.can_move_to(Phase::DkgPublicDistribute) {
+            Err(Refusal::JobOut) => Ok(false),
+            answer => answer,
+        }
+    }
+
+    /// Whether the coordinator may move to a phase, as fire.rs's `can_move_to` answers it. Changes nothing. Refused with 4 and 5. Before a
+    /// start ask [`is_idle`](Coordinator::is_idle) instead: while shares are gathered, `NonceRequest` of the same type may be moved to, and
+    /// a start takes the place of the round in hand.
     ///
     /// ```
     /// use roundcabinet::{Config, Coordinator, Phase, Refusal, SignatureType};

@@ -166,6 +166,7 @@ pub(crate) struct RcJobPlaces {
 
 #[rustfmt::skip] // in the header's order, a buffer with its length
 extern "C" {
+    fn rc_version() -> u32;
     fn rc_commission(state: *mut u8, state_length: usize, store: *mut u8, store_length: usize, config: RcConfig) -> RcAnswer;
     fn rc_set_coordinator_key(state: *mut u8, state_length: usize, store: *const u8, store_length: usize, held: u8) -> RcAnswer;
     fn rc_set_group_key(state: *mut u8, state_length: usize, store: *const u8, store_length: usize, held: u8) -> RcAnswer;
@@ -196,6 +197,11 @@ extern "C" {
     fn rc_write_dkg_coordinator(out: *mut u8, out_length: usize, dkg_id: u64) -> RcWritten;
     fn rc_write_nonce_timeout(out: *mut u8, out_length: usize, waiters: RcSignerIds, malicious: RcSignerIds) -> RcWritten;
     fn rc_write_insufficient_signers(out: *mut u8, out_length: usize, malicious: RcSignerIds) -> RcWritten;
+}
+
+pub(crate) fn version() -> u32 {
+    // SAFETY: nothing is lent.
+    unsafe { rc_version() }
 }
 
 pub(crate) fn commission(b: &mut Buffers, config: RcConfig) -> RcAnswer {

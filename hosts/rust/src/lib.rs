@@ -8,6 +8,16 @@
 //! packets, reads the clock, computes on the curve, and keeps state and store safe before it sends anything. Packets of a host's own are
 //! written by [`write`](mod@write).
 //!
+//! Two duties more are the host's, because neither 01 nor fire.rs has them, and packets can be played back or come late:
+//!
+//! - A share's iteration. The library compares a share's dkg id and sign id, never its iteration: a share from before a retry, heard late,
+//!   is recorded, and the sum is wrong. Hand on a [`ShareResponse`] only where its `ids.iteration` is that of the share request that is out.
+//! - Requests played back. A nonce request that comes in Idle starts that round, and the coordinator's own old requests bear its good seal.
+//!   Hand on no coordinator's packet ([`Kind`] 1, 3, 5, 7), unless this host stands by for another coordinator; then look at what it is
+//!   asked to sign.
+//!
+//! And a start belongs into Idle alone: ask [`Coordinator::is_idle`] before [`Coordinator::start_signing_round`].
+//!
 //! A whole round, with two signers of three keys:
 //!
 //! ```
@@ -84,7 +94,9 @@ pub use config::{Config, Signer, Timeout};
 pub use contents::{Contents, NonceRequest, NonceResponse, ShareRequest, ShareResponse};
 pub use coordinator::{Coordinator, Verdict};
 pub use ids::{KeyId, RoundIds, SignerId};
-pub use limits::{ANSWER_LENGTH, KEY_LIMIT, MESSAGE_LIMIT, SIGNER_LIMIT, STATE_LENGTH, STORE_LENGTH};
+pub use limits::{
+    version, ANSWER_LENGTH, KEY_LIMIT, MESSAGE_LIMIT, SIGNER_LIMIT, STATE_LENGTH, STATE_VERSION, STORE_LENGTH,
+};
 pub use lists::{Nonce, Share};
 pub use outgoing::{Job, Outgoing};
 pub use packet::{Header, Kind, Packet};

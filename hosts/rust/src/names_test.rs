@@ -1,6 +1,6 @@
 //! The header's names for numbers of refusals, kinds and signature types, with what this crate's enums say.
 
-use crate::{ids::SignerId, Kind, Refusal, SignatureType};
+use crate::{ids::SignerId, Job, Kind, Outgoing, Refusal, RoundIds, SignatureType};
 
 fn refusals() -> Vec<(&'static str, Refusal)> {
     let (got, expected) = (1, 2);
@@ -56,6 +56,23 @@ pub(crate) fn numbers() -> impl Iterator<Item = (String, usize)> {
     let kinds = KINDS.iter().map(|(name, kind)| (name.to_string(), kind.number().into()));
     let types = TYPES.iter().map(|(name, t)| (name.to_string(), t.byte().into()));
     refusals.chain(kinds).chain(types)
+}
+
+/// A C expression of a text, and the words here: every number, every kind.
+pub(crate) fn texts() -> Vec<(String, String)> {
+    let refusals =
+        refusals().into_iter().map(|(name, r)| (format!("rc_text(RC_REFUSED_{name})"), r.text().to_string()));
+    let kinds = KINDS.iter().map(|(name, kind)| (format!("rc_kind_text({name})"), kind.to_string()));
+    let ids = RoundIds { dkg_id: 0, sign_id: 0, iteration: 0 };
+    let (message, key_ids, nonces, shares) = (vec![], vec![], vec![], vec![]);
+    let job = Job { ids, signature_type: SignatureType::Frost, message, key_ids, nonces, shares };
+    let outgoing = [
+        ("JOB", Outgoing::Job(job)),
+        ("NONCE_TIMEOUT", Outgoing::NonceTimeout { waiters: vec![], malicious: vec![] }),
+        ("INSUFFICIENT_SIGNERS", Outgoing::InsufficientSigners { malicious: vec![] }),
+    ];
+    let outgoing = outgoing.map(|(name, o)| (format!("rc_kind_text(RC_KIND_{name})"), o.to_string()));
+    refusals.chain(kinds).chain(outgoing).collect()
 }
 
 #[test]

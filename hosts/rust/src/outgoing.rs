@@ -6,6 +6,7 @@ use crate::ids::{KeyId, RoundIds, SignerId};
 use crate::lists::{self, Nonce, Share};
 use crate::refusal::Refusal;
 use crate::signature::SignatureType;
+use std::fmt;
 
 /// Kind 32: what the aggregator needs. Lists are each responder's list as it was sent, joined in ascending order of signers.
 #[derive(Clone, Debug, PartialEq, Eq)]
@@ -78,6 +79,17 @@ impl Outgoing {
             (34, [malicious]) => Some(Outgoing::InsufficientSigners { malicious: lists::signer_ids(malicious)? }),
             _ => None,
         }
+    }
+}
+
+impl fmt::Display for Outgoing {
+    /// The header's words for its kind, `rc_kind_text`.
+    fn fmt(&self, f: &mut fmt::Formatter<'_>) -> fmt::Result {
+        f.pad(match self {
+            Outgoing::Job(_) => "job",
+            Outgoing::NonceTimeout { .. } => "nonce timeout",
+            Outgoing::InsufficientSigners { .. } => "insufficient signers",
+        })
     }
 }
 

@@ -4,6 +4,7 @@ use crate::ffi;
 use crate::ids::{RoundIds, SignerId};
 use crate::refusal::Refusal;
 use crate::signature::SignatureType;
+use std::fmt;
 
 /// What a packet is. Even kinds are a signer's.
 #[derive(Clone, Copy, Debug, PartialEq, Eq, Hash)]
@@ -49,6 +50,21 @@ impl Kind {
             7 => Some(Kind::DkgCoordinator),
             _ => None,
         }
+    }
+}
+
+impl fmt::Display for Kind {
+    /// The header's words, `rc_kind_text`.
+    fn fmt(&self, f: &mut fmt::Formatter<'_>) -> fmt::Result {
+        f.pad(match self {
+            Kind::NonceRequest => "nonce request",
+            Kind::NonceResponse => "nonce response",
+            Kind::ShareRequest => "share request",
+            Kind::ShareResponse => "share response",
+            Kind::DkgBegin => "key generation begins",
+            Kind::DkgSigner => "key generation, a signer's",
+            Kind::DkgCoordinator => "key generation, a coordinator's",
+        })
     }
 }
 

@@ -27,7 +27,8 @@ pub enum Phase {
     DkgEndDistribute,
     /// Key generation, which is the host's own.
     DkgEndGather,
-    /// About to ask for nonces. The phase to ask for before a start.
+    /// About to ask for nonces. Before a start ask [`is_idle`](crate::Coordinator::is_idle), not for this phase: it may be moved to from
+    /// SigShareGather of the same type too, and a start there takes the place of the round in hand.
     NonceRequest(SignatureType),
     /// Nonces are gathered.
     NonceGather(SignatureType),

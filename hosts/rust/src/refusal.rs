@@ -169,7 +169,8 @@ impl Refusal {
         Refusal::Other { class: a.class_, number: a.number }
     }
 
-    fn words(self) -> &'static str {
+    /// What it says in words, as the header's `rc_text` does: the line without number and values.
+    pub fn text(self) -> &'static str {
         match self {
             Refusal::Signers => "more than 10 signers, or an id twice",
             Refusal::Keys => "a key set of more than 16 keys, or a key twice in it",
@@ -203,7 +204,7 @@ impl Refusal {
 
 impl fmt::Display for Refusal {
     fn fmt(&self, f: &mut fmt::Formatter<'_>) -> fmt::Result {
-        write!(f, "refused with {}: {}", self.number(), self.words())?;
+        write!(f, "refused with {}: {}", self.number(), self.text())?;
         match self {
             Refusal::DkgId { got, expected }
             | Refusal::SignId { got, expected }

@@ -36,6 +36,7 @@ fn allowed(c: &mut Coordinator, signature_type: SignatureType) -> Vec<Phase> {
 #[test]
 fn in_idle() {
     let mut c = ready(&worked());
+    assert_eq!(c.is_idle(), Ok(true));
     for t in OTHERS {
         assert_eq!(allowed(&mut c, t), [Phase::Idle, Phase::DkgPublicDistribute, Phase::NonceRequest(t)]);
     }
@@ -45,6 +46,7 @@ fn in_idle() {
 fn while_nonces_are_gathered() {
     let mut c = ready(&worked());
     c.start_signing_round(100, b"a", ROOT, None).unwrap();
+    assert_eq!(c.is_idle(), Ok(false));
     assert_eq!(allowed(&mut c, ROOT), [Phase::Idle, Phase::NonceGather(ROOT), Phase::SigShareRequest(ROOT)]);
     for other in OTHERS {
         assert_eq!(allowed(&mut c, other), [Phase::Idle]);
@@ -62,4 +64,27 @@ fn while_shares_are_gathered() {
     for other in OTHERS {
         assert_eq!(allowed(&mut c, other), [Phase::Idle]);
     }
+}
+
+/// Why a host asks whether the coordinator is idle, and not for NonceRequest: the start is taken, and the round in hand comes to nothing.
+#[test]
+fn a_start_of_the_same_type_while_shares_are_gathered_takes_the_rounds_place() {
+    let (mut c, request) = to_shares(&worked());
+    assert_eq!(c.can_move_to(Phase::NonceRequest(SignatureType::Frost)), Ok(true));
+    assert_eq!(c.is_idle(), Ok(false));
+    c.start_signing_round(103, b"b", SignatureType::Frost, None).unwrap();
+    for signer in [0, 1] {
+        assert_eq!(c.process(104, Verdict::Good, &shares(&request, signer)), Ok(Answer::Nothing));
+    }
+    assert_eq!(c.aggregated(true), Err(Refusal::NoJob));
+}
+
+#[test]
+fn not_idle_while_a_job_is_out() {
+    let (mut c, request) = to_shares(&worked());
+    c.process(103, Verdict::Good, &shares(&request, 0)).unwrap();
+    assert!(matches!(c.process(103, Verdict::Good, &shares(&request, 1)), Ok(Answer::Job { whole: true, .. })));
+    assert_eq!(c.is_idle(), Ok(false));
+    c.aggregated(true).unwrap();
+    assert_eq!(c.is_idle(), Ok(true));
 }

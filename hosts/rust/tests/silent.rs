@@ -18,6 +18,11 @@ fn answered(c: &mut Coordinator) -> Vec<SignerId> {
     }
 }
 
+/// State and store, as a host would save them.
+fn held(c: &Coordinator) -> (Vec<u8>, Vec<u8>) {
+    (c.state().to_vec(), c.store().to_vec())
+}
+
 #[test]
 fn who_is_passed_over() {
     let (mut c, request) = started(&config());
@@ -29,11 +34,27 @@ fn who_is_passed_over() {
         ("a key too many", answers_with(&request, 0, &[1, 2])),
     ];
     for (why, packet) in passed_over {
+        let before = held(&c);
         assert_eq!(c.process(101, Verdict::Good, &packet), Ok(Answer::Nothing), "{why}");
+        assert_eq!(held(&c), before, "what is dropped changes nothing: {why}");
         assert_eq!(answered(&mut c), [], "{why}");
     }
+    let before = held(&c);
     assert_eq!(c.process(101, Verdict::Good, &answers_with(&request, 4, &[])), Ok(Answer::Nothing));
+    assert_ne!(held(&c), before, "what is recorded changes the state");
     assert_eq!(answered(&mut c), [SignerId(4)]);
+}
+
+/// `Answer::Nothing` says recorded and dropped alike; state and store tell them apart. Of a share that counts, one that comes twice and one that nobody waits for.
+#[test]
+fn what_tells_recorded_from_dropped() {
+    let (mut c, request) = to_shares(&worked());
+    for (signer, counts) in [(2, false), (0, true), (0, false)] {
+        let before = held(&c);
+        assert_eq!(c.process(103, Verdict::Good, &shares(&request, signer)), Ok(Answer::Nothing));
+        assert_eq!(held(&c).0 != before.0, counts);
+        assert_eq!(held(&c) != before, counts);
+    }
 }
 
 #[test]

@@ -53,6 +53,8 @@ fn numbers() -> Vec<Line> {
         ("RC_KEY_LIMIT", KEY_LIMIT),
         ("RC_SIGNER_PLACES", SIGNER_PLACES),
         ("RC_KEY_PLACES", KEY_PLACES),
+        ("RC_VERSION", crate::version() as usize),
+        ("RC_STATE_VERSION", crate::STATE_VERSION as usize),
     ];
     let classes =
         [("RC_NOTHING", NOTHING), ("RC_PACKET", PACKET), ("RC_JOB", JOB), ("RC_RESULT", RESULT), ("RC_ERROR", ERROR)];
@@ -72,8 +74,9 @@ fn prototypes() -> String {
 fn prototype(declared: &str) -> String {
     let (head, answer) = declared.rsplit_once(" -> ").unwrap();
     let (name, parameters) = head.strip_prefix("fn ").unwrap().split_once('(').unwrap();
-    let types = parameters.trim_end_matches(')').split(',').map(|p| in_c(p.split_once(':').unwrap().1.trim()));
-    format!("{} {name}({});\n", in_c(answer), types.collect::<Vec<_>>().join(", "))
+    let types = parameters.trim_end_matches(')').split(',').filter_map(|p| Some(in_c(p.split_once(':')?.1.trim())));
+    let types = types.collect::<Vec<_>>().join(", ");
+    format!("{} {name}({});\n", in_c(answer), if types.is_empty() { "void" } else { &types })
 }
 
 fn in_c(rust: &str) -> &'static str {
@@ -100,14 +103,14 @@ fn in_c(rust: &str) -> &'static str {
 }
 
 /// Compiles a C program beside the header, runs it and gives what it prints.
-fn run_c(program: &str) -> String {
+fn run_c(name: &str, program: &str) -> String {
     let folder = Path::new(env!("OUT_DIR"));
-    let (source, binary) = (folder.join("header_test.c"), folder.join("header_test"));
+    let (source, binary) = (folder.join(format!("{name}.c")), folder.join(name));
     std::fs::write(&source, program).unwrap();
     let include = Path::new(env!("CARGO_MANIFEST_DIR")).join("../../include");
     let compiler = std::env::var("CC").unwrap_or("cc".into());
     let mut compile = Command::new(compiler);
-    compile.arg("-Werror").arg("-I").arg(include).arg(&source).arg("-o").arg(&binary);
+    compile.arg("-Werror").arg("-O1").arg("-I").arg(include).arg(&source).arg("-o").arg(&binary);
     assert!(compile.status().expect("a C compiler").success(), "a prototype or a name is not the header's");
     String::from_utf8(Command::new(binary).output().unwrap().stdout).unwrap()
 }
@@ -118,10 +121,28 @@ fn structs_numbers_and_prototypes_are_the_headers() {
     let prints: String =
         lines.iter().map(|(c, _)| format!("    printf(\"%llu\\n\", (unsigned long long)({c}));\n")).collect();
     let includes = "#include \"roundcabinet.h\"\n#include <stdio.h>\n";
-    let printed = run_c(&format!("{includes}{}int main(void) {{\n{prints}    return 0;\n}}\n", prototypes()));
+    let printed =
+        run_c("numbers", &format!("{includes}{}int main(void) {{\n{prints}    return 0;\n}}\n", prototypes()));
     let found: Vec<Line> =
         lines.iter().map(|(c, _)| c.clone()).zip(printed.lines().map(|n| n.parse().unwrap())).collect();
     assert_eq!(lines, found);
+}
+
+#[test]
+fn texts_are_the_headers_word_for_word() {
+    let texts = crate::names_test::texts();
+    let prints: String = texts.iter().map(|(c, _)| format!("    puts({c});\n")).collect();
+    let includes = "#include \"roundcabinet.h\"\n#include <stdio.h>\n";
+    let printed = run_c("texts", &format!("{includes}int main(void) {{\n{prints}    return 0;\n}}\n"));
+    assert_eq!(texts.iter().map(|(_, words)| words.as_str()).collect::<Vec<_>>(), printed.lines().collect::<Vec<_>>());
+    let names = HEADER.lines().filter(|l| l.starts_with("#define RC_REFUSED_") || l.starts_with("#define RC_KIND_"));
+    assert_eq!(names.count(), texts.len());
+}
+
+#[test]
+fn the_state_has_the_headers_version() {
+    let coordinator = crate::Coordinator::commission(&crate::Config::new(0, 0, 0)).unwrap();
+    assert_eq!(coordinator.state()[8..16], u64::from(crate::STATE_VERSION).to_le_bytes());
 }
 
 const HEADER: &str = include_str!(concat!(env!("CARGO_MANIFEST_DIR"), "/../../include/roundcabinet.h"));
@@ -139,7 +160,7 @@ fn every_struct_of_the_header_is_compared() {
 
 #[test]
 fn every_function_of_the_header_is_declared() {
-    let functions = HEADER.lines().filter(|l| l.starts_with("rc_"));
+    let functions = HEADER.lines().filter(|l| l.starts_with("rc_") || l.starts_with("uint32_t rc_"));
     let names = functions.filter_map(|l| Some(l.split_once(' ')?.1.split_once('(')?.0));
     let declared = prototypes();
     let mut count = 0;

@@ -125,7 +125,11 @@ fn a_root_of_32_bytes_and_of_no_other_number() {
         assert_eq!(b.state, before);
         assert!(b.out.iter().all(|byte| *byte == FILLED), "a refusal writes nothing");
         let a = start_signing_round(&mut b, &Start { signature_type: 2, root: &root, ..START });
-        assert_eq!(a, RcAnswer { class_: PACKET, length: 49, ..RcAnswer::default() }, "beside another type it isn't looked at");
+        assert_eq!(
+            a,
+            RcAnswer { class_: PACKET, length: 49, ..RcAnswer::default() },
+            "beside another type it isn't looked at"
+        );
     }
     let mut b = ready(STATE_LENGTH, STORE_LENGTH, ANSWER_LENGTH);
     let a = start_signing_round(&mut b, &Start { signature_type: 3, root: &filled(32), ..START });

@@ -1,0 +1,88 @@
+/*
+ * Eight threads at once, each with buffers of its own and a stack of RC_STACK and a little for its own frames: rounds with a retry in them. All
+ * threads make the same calls, so in the end all of them hold the same bytes. Nonces and shares are made up.
+ */
+#include "packets.h"
+
+#include <pthread.h>
+#include <stdio.h>
+#include <string.h>
+
+enum { THREADS = 8, ROUNDS = 200, SIGNERS = 3, DKG = 7, LATE = 10, OWN_FRAMES = 32 * 1024 };
+
+typedef struct buffers {
+    uint8_t state[RC_STATE_LENGTH], store[RC_STORE_LENGTH], out[RC_ANSWER_LENGTH];
+    packet packet;
+    int failures;
+} buffers;
+
+#define LENT d->state, sizeof d->state, d->store, sizeof d->store
+
+static rc_config configuration(void) {
+    rc_config c;
+    memset(&c, 0, sizeof c);
+    c.signer_count = c.num_signers = c.num_keys = SIGNERS;
+    c.threshold = c.sign_threshold = 2;
+    c.sign_timeout = (rc_timeout){1, LATE};
+    for (uint32_t i = 0; i < SIGNERS; i++) {
+        c.signers[i].id = i;
+        c.signers[i].key_count = c.signers[i].has_keys = 1;
+        c.signers[i].keys[0] = i + 1;
+    }
+    return c;
+}
+
+static void expect(buffers *d, rc_answer a, uint32_t class_) { d->failures += a.class_ != class_ || a.number != 0; }
+
+/* A signer answers the request in out, or a later one of the same ids. */
+static rc_answer respond(buffers *d, uint32_t signer, packet_ids ids, int share) {
+    static const uint8_t words[] = "payout 7";
+    uint8_t bytes[NONCE_LENGTH], key[KEY_LENGTH];
+    memset(bytes, 2, sizeof bytes);
+    put_number(key, KEY_LENGTH, signer + 1);
+    const span keys = {key, sizeof key};
+    d->failures += share ? !write_share_response(&d->packet, signer, ids, signer, bytes, keys)
+                         : !write_nonce_response(&d->packet, signer, ids, (span){words, sizeof words}, keys, (span){bytes, sizeof bytes});
+    return rc_process_message(LENT, d->out, sizeof d->out, 0, 1, d->packet.bytes, d->packet.length);
+}
+
+/* Signers 0 and 1 give nonces; 0 gives its share and 1 does not. Then the retry, without 1. */
+static void round_with_a_retry(buffers *d) {
+    static const uint8_t words[] = "payout 7";
+    static const uint32_t ended[SIGNERS] = {0, 1, 2};
+    expect(d, rc_commission(LENT, configuration()), RC_NOTHING);
+    expect(d, rc_set_group_key(LENT, 1), RC_NOTHING);
+    expect(d, rc_take_results(LENT, DKG, ended, SIGNERS), RC_NOTHING);
+    expect(d, rc_start_signing_round(LENT, d->out, sizeof d->out, 0, words, sizeof words, RC_SCHNORR, NULL, 0, 0, 0), RC_PACKET);
+    for (uint64_t iteration = 1; iteration <= 2; iteration++) {
+        const packet_ids ids = {DKG, 1, iteration};
+        const uint32_t other = (uint32_t)iteration;
+        expect(d, respond(d, 0, ids, 0), RC_NOTHING);
+        expect(d, respond(d, other, ids, 0), RC_PACKET);
+        expect(d, respond(d, 0, ids, 1), RC_NOTHING);
+        if (iteration == 1) expect(d, rc_process_timeout(LENT, d->out, sizeof d->out, LATE + 1), RC_PACKET);
+    }
+    expect(d, respond(d, 2, (packet_ids){DKG, 1, 2}, 1), RC_JOB);
+    expect(d, rc_aggregated(LENT, 1), RC_RESULT);
+}
+
+static void *work(void *of) {
+    for (int i = 0; i < ROUNDS; i++) round_with_a_retry(of);
+    return NULL;
+}
+
+int main(void) {
+    static buffers all[THREADS];
+    pthread_t threads[THREADS];
+    pthread_attr_t small;
+    int failures = pthread_attr_init(&small) || pthread_attr_setstacksize(&small, RC_STACK + OWN_FRAMES);
+    for (int i = 0; i < THREADS; i++)
+        if (pthread_create(&threads[i], &small, work, &all[i]) != 0) return 2;
+    for (int i = 0; i < THREADS; i++) {
+        failures += pthread_join(threads[i], NULL) != 0;
+        failures += all[i].failures + (memcmp(&all[i], &all[0], sizeof all[0]) != 0);
+    }
+    printf("%d threads at once, %d rounds each\n", THREADS, ROUNDS);
+    printf(failures ? "%d wrong\n" : "all as it should be\n", failures);
+    return failures != 0;
+}
