@@ -13,7 +13,9 @@ use Rattle.frame.proofs.Flags.{and-then, and-else, and-came}
 two : (c : tie.Joined1) → let h = c .before .before .before .args .h in c .if1 .if2 ≡ (eqb (h .«signature_type») 0 && eqb (h .pairs) 0)
 two c = and-came _ _ (λ w. (w .0 .taken, w .2)) (λ w. (w .0 .left, w .1)) (c .if1 .came)
 
-three : (c : tie.Joined2) → let h = c .before .before .before .before .args .h in c .if2 .if3 ≡ (eqb (h .«signature_type») 0 && eqb (h .pairs) 0 && eqb (h .ids .«sign_id») 0)
+three :
+    (c : tie.Joined2) → let h = c .before .before .before .before .args .h in c .if2 .if3
+    ≡ (eqb (h .«signature_type») 0 && eqb (h .pairs) 0 && eqb (h .ids .«sign_id») 0)
 three c = rw (← two (c .before)) (⊎-elim (λ w. and-then (w .0 .taken) (w .2)) (λ w. and-else _ (w .0 .left) (w .1)) (c .if2 .came))
 
 returns : tie.Need-returns

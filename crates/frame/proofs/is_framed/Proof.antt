@@ -21,14 +21,29 @@ is-headed-requires c κs = search needs
 
 returns-2 : tie.Need-returns-2
 unfolding framed
-returns-2 c = rw (le-leb 32 (length (now (c .before .before .before .before .before .args .s))) (c .before .before .before .if1 .left), ← c .before .before .header .ensures, says-no (c .before .is-headed .ensures) (c .if2 .taken))
+returns-2 c =
+    let else1 = c .before .before .before in
+    let start = else1 .before .before in
+    rw (
+      le-leb 32 (length (now (start .args .s))) (else1 .if1 .left),
+      ← c .before .before .header .ensures,
+      says-no (c .before .is-headed .ensures) (c .if2 .taken),
+    )
 
 tiled-requires : tie.Need-tiled-requires
 tiled-requires c κs = search needs
 
 returns-3 : tie.Need-returns-3
 unfolding framed
-returns-3 c = rw (le-leb 32 (length (now (c .before .before .before .before .before .before .args .s))) (c .before .before .before .before .if1 .left), ← c .before .before .before .header .ensures, says-yes (c .before .before .is-headed .ensures) (c .before .if2 .left)) (c .tiled .ensures)
+returns-3 c =
+    let after-header = c .before .before .before in
+    let else1 = after-header .before in
+    let start = else1 .before .before in
+    rw (
+      le-leb 32 (length (now (start .args .s))) (else1 .if1 .left),
+      ← after-header .header .ensures,
+      says-yes (c .before .before .is-headed .ensures) (c .before .if2 .left),
+    ) (c .tiled .ensures)
 
 pub is-framed-spec : {M : Type 1} → statement M
 is-framed-spec =

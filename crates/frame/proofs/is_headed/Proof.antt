@@ -11,10 +11,14 @@ use Rattle.layout.specs.LaidOut.{headed}
 use Rattle.frame.proofs.Flags.{and-then, and-else, and-came, by-kind}
 
 -- the first two tests of a request and of a share request
-request : (c : tie.Joined2) → let h = c .before .before .before .args .h in c .if2 .if3 ≡ (eqb (h .«signer_id») 0 && leb (h .«signature_type») 3)
+request :
+    (c : tie.Joined2) → let h = c .before .before .before .args .h in c .if2 .if3
+    ≡ (eqb (h .«signer_id») 0 && leb (h .«signature_type») 3)
 request c = and-came _ _ (λ w. (w .0 .taken, w .2)) (λ w. (w .0 .left, w .1)) (c .if2 .came)
 
-share-request : (c : tie.Joined7) → let h = c .before .before .before .before .before .args .h in c .if7 .if8 ≡ (eqb (h .«signer_id») 0 && leb (h .«signature_type») 3)
+share-request :
+    (c : tie.Joined7) → let h = c .before .before .before .before .before .args .h in c .if7 .if8
+    ≡ (eqb (h .«signer_id») 0 && leb (h .«signature_type») 3)
 share-request c = and-came _ _ (λ w. (w .0 .taken, w .2)) (λ w. (w .0 .left, w .1)) (c .if7 .came)
 
 returns : tie.Need-returns
@@ -35,7 +39,9 @@ returns-4 c = rw (c .before .before .if4 .taken) (and-else _ (ne-eqb _ _ (c .if5
 
 returns-5 : tie.Need-returns-5
 unfolding headed
-returns-5 c = rw (c .before .before .before .before .if6 .taken, ← share-request (c .before .before)) (and-then (c .before .if8 .taken) refl)
+returns-5 c =
+    let then6 = c .before .before .before .before in
+    rw (then6 .if6 .taken, ← share-request (c .before .before)) (and-then (c .before .if8 .taken) refl)
 
 returns-6 : tie.Need-returns-6
 unfolding headed
@@ -50,7 +56,10 @@ dkg-only-requires c κs = search needs
 
 returns-8 : tie.Need-returns-8
 unfolding headed
-returns-8 c = and-then (eq-eqb _ _ (c .before .if11 .taken)) (c .dkg-only .ensures) ∙ sym (by-kind _ _ _ _ _ _ _ _ (c .before .before .before .if10 .taken))
+returns-8 c =
+    let then10 = c .before .before .before in
+    and-then (eq-eqb _ _ (c .before .if11 .taken)) (c .dkg-only .ensures)
+    ∙ sym (by-kind _ _ _ _ _ _ _ _ (then10 .if10 .taken))
 
 returns-9 : tie.Need-returns-9
 unfolding headed
@@ -68,7 +77,10 @@ dkg-only-requires-3 c κs = search needs
 
 returns-11 : tie.Need-returns-11
 unfolding headed
-returns-11 c = and-then (eq-eqb _ _ (c .before .if14 .taken)) (c .dkg-only3 .ensures) ∙ sym (by-kind _ _ _ _ _ _ _ _ (c .before .before .before .if13 .taken))
+returns-11 c =
+    let then13 = c .before .before .before in
+    and-then (eq-eqb _ _ (c .before .if14 .taken)) (c .dkg-only3 .ensures)
+    ∙ sym (by-kind _ _ _ _ _ _ _ _ (then13 .if13 .taken))
 
 returns-12 : tie.Need-returns-12
 unfolding headed
@@ -76,7 +88,20 @@ returns-12 c = rw (c .before .before .if13 .taken) (and-else _ (ne-eqb _ _ (c .i
 
 returns-13 : tie.Need-returns-13
 unfolding headed
-returns-13 c = simp (ne-eqb _ _ (c .before .before .before .before .before .before .if1 .left), ne-eqb _ _ (c .before .before .before .before .before .if4 .left), ne-eqb _ _ (c .before .before .before .before .if6 .left), ne-eqb _ _ (c .before .before .before .if9 .left), ne-eqb _ _ (c .before .before .if10 .left), ne-eqb _ _ (c .before .if12 .left), ne-eqb _ _ (c .if13 .left))
+returns-13 c =
+    let else9 = c .before .before .before in
+    let else6 = else9 .before in
+    let else4 = else6 .before in
+    let else1 = else4 .before in
+    simp (
+      ne-eqb _ _ (else1 .if1 .left),
+      ne-eqb _ _ (else4 .if4 .left),
+      ne-eqb _ _ (else6 .if6 .left),
+      ne-eqb _ _ (else9 .if9 .left),
+      ne-eqb _ _ (c .before .before .if10 .left),
+      ne-eqb _ _ (c .before .if12 .left),
+      ne-eqb _ _ (c .if13 .left),
+    )
 
 pub is-headed-spec : {M : Type 1} → statement M
 is-headed-spec =

@@ -40,7 +40,9 @@ tiles-end s p zero at h = refl
 tiles-end s p (suc n) at h = let z : ⊥ = omega arith in absurd z
 
 abbrev Inv-loop : tie.InvT-loop
-Inv-loop s pairs p₀ at₀ left₀ p at left = (tiles s p left at ≡ tiles s 32 pairs (32 + 8 * pairs)) × (p + 8 * left ≡ 32 + 8 * pairs) × (at + 0x1_0000_0000 * left ≤ 0x2_0000_0000_0000)
+Inv-loop s pairs p₀ at₀ left₀ p at left =
+    (tiles s p left at ≡ tiles s 32 pairs (32 + 8 * pairs)) × (p + 8 * left ≡ 32 + 8 * pairs)
+    × (at + 0x1_0000_0000 * left ≤ 0x2_0000_0000_0000)
 
 abbrev μ-loop : tie.MeasureT-loop
 μ-loop s pairs p₀ at₀ left₀ p at left = left
@@ -61,8 +63,12 @@ cast-offset : tie.Need-cast-offset Inv-loop μ-loop
 cast-offset c = search needs
 
 returns : tie.Need-returns Inv-loop μ-loop
-returns c = let v = c .before .before .before .loop in
-    sym (tiles-not _ (v .p) (v .left) (v .at) _ (c .before .before .loop-test .taken) (c .before .u32-at .ensures) (c .if1 .taken)) ∙ v .inv .0
+returns c =
+    let at-loop = c .before .before .before in
+    let v = at-loop .loop in
+    sym
+    (tiles-not _ (v .p) (v .left) (v .at) _ (c .before .before .loop-test .taken) (c .before .u32-at .ensures)
+    (c .if1 .taken)) ∙ v .inv .0
 
 add-u32-at : tie.Need-add-u32-at Inv-loop μ-loop
 add-u32-at c = search needs
@@ -87,7 +93,8 @@ loop-less c = search needs
 
 loop-again : tie.Need-loop-again Inv-loop μ-loop
 loop-again c = let v = c .before .before .before .before .loop in (
-  tiles-next _ (v .p) (v .left) (v .at) _ _ (c .before .before .before .loop-test .taken) (c .before .before .u32-at .ensures) (c .u32-at2 .ensures) (c .before .if1 .left) ∙ v .inv .0,
+  tiles-next _ (v .p) (v .left) (v .at) _ _ (c .before .before .before .loop-test .taken)
+      (c .before .before .u32-at .ensures) (c .u32-at2 .ensures) (c .before .if1 .left) ∙ v .inv .0,
   omega arith,
   omega arith,
 )

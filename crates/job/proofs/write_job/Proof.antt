@@ -105,31 +105,29 @@ sub-nonces-at c = search needs
 sub-put-lists : tie.Need-sub-put-lists
 sub-put-lists c = search needs
 
+-- The frame, seen from after the body and after the first lists.
+abbrev before-body : tie.After-put-body → tie.After-put-job-frame
+before-body c =
+    let after-put-all-share-pairs = c .before .before .before .before .before in
+    after-put-all-share-pairs .before .before .before .before
+
+abbrev before-lists : tie.After-put-lists → tie.After-put-job-frame
+before-lists c = before-body (c .before .before .before .before .before .before)
+
 put-lists-requires : tie.Need-put-lists-requires
 put-lists-requires c κs =
-    let after-put-body = c .before .before .before .before .before in
-    let after-put-all-share-pairs = after-put-body .before .before .before .before .before in
-    let frame = after-put-all-share-pairs .before .before .before .before in
-    let else3 = frame .before .before .before in
-    (omega (arith, start-small frame), hold else3)
+    let frame = before-body (c .before .before .before .before .before) in
+    (omega (arith, start-small frame), hold (frame .before .before .before))
 
 put-lists-requires-2 : tie.Need-put-lists-requires-2
 put-lists-requires-2 c κs =
-    let after-put-lists = c .before .before .before in
-    let after-put-body = after-put-lists .before .before .before .before .before .before in
-    let after-put-all-share-pairs = after-put-body .before .before .before .before .before in
-    let frame = after-put-all-share-pairs .before .before .before .before in
-    let else3 = frame .before .before .before in
-    (omega (arith, start-small frame), hold else3)
+    let frame = before-lists (c .before .before .before) in
+    (omega (arith, start-small frame), hold (frame .before .before .before))
 
 put-all-shares-requires : tie.Need-put-all-shares-requires
 put-all-shares-requires c κs =
-    let after-put-lists = c .before .before .before .before .before .before .before in
-    let after-put-body = after-put-lists .before .before .before .before .before .before in
-    let after-put-all-share-pairs = after-put-body .before .before .before .before .before in
-    let frame = after-put-all-share-pairs .before .before .before .before in
-    let else3 = frame .before .before .before in
-    (start-small frame, hold else3)
+    let frame = before-lists (c .before .before .before .before .before .before .before) in
+    (start-small frame, hold (frame .before .before .before))
 
 cast-t12 : tie.Need-cast-t12
 cast-t12 c = search needs
@@ -146,16 +144,14 @@ returns-4 c =
     let after-put-all-share-pairs = after-put-body .before .before .before .before .before in
     let after-put-job-frame = after-put-all-share-pairs .before .before .before .before in
     let after-list-totals = after-put-job-frame .before .before in
-    let held = after-list-totals .before in
-    let else2 = held .before .before in
-    let else1 = else2 .before in
-    let after-shared-slice-known2 = else1 .before in
+    let else2 = after-list-totals .before .before .before in
+    let after-shared-slice-known2 = else2 .before .before in
     let start = after-shared-slice-known2 .before .before .before in
     let a = start .args in
     let message = now (a .message) in
     let source = now (a .source) in
     let root = rootOf (a .head) in
-    let ok = hold held in
+    let ok = hold (after-list-totals .before) in
     let bytes : Bytes source = λ i. after-shared-slice-known2 .shared-slice-known2 .given i .fits in
     let qs = signersIn (a .ps) in
     let all = signers-hold _ (a .ps) ok in
@@ -169,37 +165,17 @@ returns-4 c =
     let code = encode-at (a .head) message source bytes (a .ps) all in
     let lens : map length rs ≡ joined (map shareLengths qs) = share-lengths source bytes qs all in
     let keys-size : t .result .keys ≡ length keys = t .ensures .0 ∙ sym (length-lists source bytes qs all KeyIds) in
-    let nonces-size : t .result .nonces ≡ length nonces =
-    t .ensures .1 ∙ sym (length-lists source bytes qs all Nonces) in
+    let nonces-size : t .result .nonces ≡ length nonces = t .ensures .1 ∙ sym (length-lists source bytes qs all Nonces) in
     let count : t .result .shares ≡ length rs = t .ensures .2 ∙ sym (share-count source bytes qs all) in
-    wrote _ _ _ (else1 .if1 .left) (and-both _ _ (le-leb _ _ (else2 .if2 .left)) ok) _ _
-    (ap length code ∙ length-job _ message root keys nonces rs at (omega arith)
-    ∙ rw lens (omega (arith, frame .ensures .1, pairs .0)))
-    (omega (
-      arith,
-      small after-list-totals,
-      frame .ensures .1,
-      pairs .0,
-      else2 .if2 .left,
-      length-rootOf (a .head),
-      all-short _ (a .ps) ok,
-    ))
-    (rw (
-      c .before .before .put-all-shares .ensures,
-      after-put-lists2 .put-lists2 .ensures,
-      after-put-lists .put-lists .ensures,
-      after-put-body .put-body .ensures,
-      pairs .1,
-      frame .ensures .2,
-      frame .ensures .0,
-      ← lens,
-      code,
-      ← t .ensures .2,
-      keys-size,
-      nonces-size,
-    )
-    (put-job _ message root keys nonces rs at (omega arith) _ _ _ _ (omega (arith, frame .ensures .1))
-    (omega (arith, frame .ensures .1)) (omega (arith, frame .ensures .1))))
+    let placed = frame .ensures .1 in
+    wrote _ _ _ (else2 .before .if1 .left) (and-both _ _ (le-leb _ _ (else2 .if2 .left)) ok) _ _
+    (ap length code ∙ length-job _ message root keys nonces rs at (omega arith) ∙ rw lens (omega (arith, placed, pairs .0)))
+    (omega (arith, small after-list-totals, placed, pairs .0, else2 .if2 .left, length-rootOf (a .head), all-short _ (a .ps) ok))
+    (rw (c .before .before .put-all-shares .ensures, after-put-lists2 .put-lists2 .ensures, after-put-lists .put-lists .ensures)
+    (rw (after-put-body .put-body .ensures, pairs .1, frame .ensures .2, frame .ensures .0)
+    (rw (← lens, code, ← t .ensures .2, keys-size, nonces-size)
+    (put-job _ message root keys nonces rs at (omega arith) _ _ _ _ (omega (arith, placed)) (omega (arith, placed))
+    (omega (arith, placed))))))
 
 pub write-job-spec : {M : Type 1} → statement M
 write-job-spec =

@@ -23,8 +23,12 @@ same-length c = search needs
 returns : tie.Need-returns
 unfolding commissionedTurn
 returns c =
-    rw (lt-leb _ _ (c .before .before .before .before .before .before .if1 .taken))
-    (called _ _ (rw (← c .before .before .before .before .before .unsaved .ensures) (error-did _ _ (c .before .before .before .before .refused .ensures))) (c .before .before .keep .ensures))
+    let after-refused = c .before .before .before .before in
+    let after-unsaved = after-refused .before in
+    let then1 = after-unsaved .before in
+    rw (lt-leb _ _ (then1 .if1 .taken))
+    (called _ _ (rw (← after-unsaved .unsaved .ensures) (error-did _ _ (after-refused .refused .ensures)))
+    (c .before .before .keep .ensures))
 
 new-config-requires : tie.Need-new-config-requires
 new-config-requires c κs = search needs
@@ -44,7 +48,11 @@ same-length-3 c = search needs
 returns-2 : tie.Need-returns-2
 unfolding commissionedTurn
 returns-2 c =
-    rw (le-leb _ _ (c .before .before .before .before .before .before .before .before .before .if1 .left), ← c .before .before .before .before .before .before .before .before .new-config .ensures) (called _ _ (c .before .before .before .before .before .before .commission .ensures) (c .before .before .keep2 .ensures))
+    let after-commission = c .before .before .before .before .before .before in
+    let after-new-config = after-commission .before .before in
+    let else1 = after-new-config .before in
+    rw (le-leb _ _ (else1 .if1 .left), ← after-new-config .new-config .ensures)
+    (called _ _ (after-commission .commission .ensures) (c .before .before .keep2 .ensures))
 
 pub commission-spec : {M : Type 1} → statement M
 commission-spec =

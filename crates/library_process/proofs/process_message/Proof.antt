@@ -29,9 +29,14 @@ same-length-3 c = search needs
 
 returns : tie.Need-returns
 returns c =
-    let args = c .before .before .before .before .before .before .before .before .before .before .before .before .before .before .before .before .before .before .args in
-    call (λ s. receiveTurn ProcessMessage (args .clock) (isYes (args .verdict)) (args .packet .now) (length (args .out .now)) s (args .store .now)) _
-    (c .before .before .before .before .before .before .before .before .before .before .before .before .load .ensures) (c .before .before .before .before .before .before .before .before .process-message .ensures) (c .before .before .keep .ensures)
+    let after-process-message = c .before .before .before .before .before .before .before .before in
+    let after-load = after-process-message .before .before .before .before in
+    let start = after-load .before .before .before .before .before .before in
+    let args = start .args in
+    call
+    (λ s. receiveTurn ProcessMessage (args .clock) (isYes (args .verdict)) (args .packet .now)
+    (length (args .out .now)) s (args .store .now)) _ (after-load .load .ensures)
+    (after-process-message .process-message .ensures) (c .before .before .keep .ensures)
 
 pub process-message-spec : {M : Type 1} → statement M
 process-message-spec =

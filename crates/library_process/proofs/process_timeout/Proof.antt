@@ -24,9 +24,12 @@ same-length-2 c = search needs
 
 returns : tie.Need-returns
 returns c =
-    let args = c .before .before .before .before .before .before .before .before .before .before .before .before .before .before .args in
+    let after-process-timeout = c .before .before .before .before .before .before in
+    let after-load = after-process-timeout .before .before .before in
+    let start = after-load .before .before .before .before .before in
+    let args = start .args in
     call (λ s. processTimeoutTurn (args .clock) (length (args .out .now)) s (args .store .now)) _
-    (c .before .before .before .before .before .before .before .before .before .load .ensures) (c .before .before .before .before .before .before .process-timeout .ensures) (c .before .before .keep .ensures)
+    (after-load .load .ensures) (after-process-timeout .process-timeout .ensures) (c .before .before .keep .ensures)
 
 pub process-timeout-spec : {M : Type 1} → statement M
 process-timeout-spec =

@@ -20,9 +20,12 @@ same-length c = search needs
 
 returns : tie.Need-returns
 returns c =
-    let args = c .before .before .before .before .before .before .before .before .before .before .before .args in
+    let after-moves = c .before .before .before .before in
+    let after-load = after-moves .before .before in
+    let start = after-load .before .before .before .before .before in
+    let args = start .args in
     call (λ s. movedTurn (args .next) (args .signature-type) (args .root .now) s (args .store .now)) _
-    (c .before .before .before .before .before .before .load .ensures) (c .before .before .before .before .moves .ensures) (c .before .before .keep .ensures)
+    (after-load .load .ensures) (after-moves .moves .ensures) (c .before .before .keep .ensures)
 
 pub can-move-to-spec : {M : Type 1} → statement M
 can-move-to-spec =

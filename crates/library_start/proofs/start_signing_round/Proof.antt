@@ -27,11 +27,17 @@ same-length-2 c = search needs
 
 returns : tie.Need-returns
 returns c =
-    let args = c .before .before .before .before .before .before .before .before .before .before .before .before .before .before .before .before .before .args in
+    let after-start = c .before .before .before .before .before .before in
+    let after-sign-id-of = after-start .before .before in
+    let after-load = after-sign-id-of .before .before in
+    let start = after-load .before .before .before .before .before .before .before in
+    let args = start .args in
     let message = args .message .now in
     let id = signIdGiven (args .sign-id-given) (args .sign-id) in
-    call (λ s. startedTurn (args .clock) message (args .signature-type) (args .root .now) id (length (args .out .now)) s (args .store .now)) _
-    (c .before .before .before .before .before .before .before .before .before .before .load .ensures) (rw (← c .before .before .before .before .before .before .before .before .sign-id-of .ensures) (c .before .before .before .before .before .before .start .ensures)) (c .before .before .keep .ensures)
+    call
+    (λ s. startedTurn (args .clock) message (args .signature-type) (args .root .now) id (length (args .out .now)) s
+    (args .store .now)) _ (after-load .load .ensures)
+    (rw (← after-sign-id-of .sign-id-of .ensures) (after-start .start .ensures)) (c .before .before .keep .ensures)
 
 pub start-signing-round-spec : {M : Type 1} → statement M
 start-signing-round-spec =

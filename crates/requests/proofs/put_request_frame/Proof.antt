@@ -43,8 +43,10 @@ add-result c = search needs
 
 add-result-2 : tie.Need-add-result-2
 add-result-2 c =
-    let root = c .before .before .before .before .before .before .before .before .before .before .before .before in
-    omega (arith, root .root-size .ensures .1, length-rootOf (root .before .before .before .before .args .head))
+    let after-put-pair = c .before .before .before .before .before .before in
+    let root = after-put-pair .before .before .before .before .before .before in
+    let start = root .before .before .before .before in
+    omega (arith, root .root-size .ensures .1, length-rootOf (start .args .head))
 
 same-length : tie.Need-same-length
 same-length c = search needs
@@ -53,10 +55,17 @@ returns : tie.Need-returns
 returns c =
     let pair = c .before .before .before .before .before .before in
     let header = pair .before .before .before .before in
-    let root = header .before .before .root-size .ensures .1 in (
+    let after-root-size = header .before .before in
+    let after-type-number = after-root-size .before .before in
+    let root = after-root-size .root-size .ensures .1 in (
       rw root,
-      rw (c .before .before .put-pair2 .ensures, pair .put-pair .ensures, header .put-header .ensures, root, header .before .before .before .before .type-number .ensures)
-          (put-frame _ _ _ (_ ∷ (_ ∷ []))),
+      rw (
+        c .before .before .put-pair2 .ensures,
+        pair .put-pair .ensures,
+        header .put-header .ensures,
+        root,
+        after-type-number .type-number .ensures,
+      ) (put-frame _ _ _ (_ ∷ (_ ∷ []))),
     )
 
 pub put-request-frame-spec : {M : Type 1} → statement M

@@ -21,8 +21,10 @@ use Rattle.pieces.proofs.Given.{places-10, map-live, response-few, places-few, 
 abbrev Inv-loop : tie.InvT-loop
 Inv-loop out₀ offset size places count p₀ at₀ i₀ out p at i =
     (i ≤ count) × (count ≤ 10) × (p ≡ 48 + 8 * i)
-    × (at + total (map responseLength (drop i (take count places))) ≡ offset + total (map responseLength (take count places)))
-    × (put out p (pairs at (map responseLength (drop i (take count places)))) ≡ put out₀ 48 (pairs offset (map responseLength (take count places))))
+    × (at + total (map responseLength (drop i (take count places)))
+    ≡ offset + total (map responseLength (take count places)))
+    × (put out p (pairs at (map responseLength (drop i (take count places))))
+    ≡ put out₀ 48 (pairs offset (map responseLength (take count places))))
 
 abbrev μ-loop : tie.MeasureT-loop
 μ-loop out₀ offset size places count p₀ at₀ i₀ out p at i = count - i
@@ -40,23 +42,30 @@ response-length-requires : tie.Need-response-length-requires Inv-loop μ-loop
 response-length-requires c κs =
     let start = c .before .before .before .before .before in
     let ps = start .args .ps in
-    response-few _ _ (place-held _ ps (start .pre .1) (places-10 ps _ (start .good .1 .1 .1 .0)) (c .before .before .loop .i) _ (c .before .loop-test .taken))
+    response-few _ _
+    (place-held _ ps (start .pre .1) (places-10 ps _ (start .good .1 .1 .1 .0)) (c .before .before .loop .i) _
+    (c .before .loop-test .taken))
 
 put-pair-requires : tie.Need-put-pair-requires Inv-loop μ-loop
 put-pair-requires c κs = tt
 
 -- the lengths from i on: this one, then the others
 lens :
-    (c : lts.After-slice-known2 (response-length-reads.Asked, response-length-reads.Learnt, put-pair-reads.Asked, put-pair-reads.Learnt) reads.Pre reads.Post Inv-loop μ-loop)
-    → let turn = c .before .before .before .before .before .before .before in let ps = turn .before .before .before .args .ps in let live = take (ps .count) (ps .places) in let i = turn .loop .i in
-    map responseLength (drop i live) ≡ c .before .before .before .before .response-length .result ∷ map responseLength (drop (i + 1) live)
+    (c : lts.After-slice-known2
+    (response-length-reads.Asked, response-length-reads.Learnt, put-pair-reads.Asked, put-pair-reads.Learnt)
+    reads.Pre reads.Post Inv-loop μ-loop) → let turn = c .before .before .before .before .before .before .before in
+    let ps = turn .before .before .before .args .ps in let live = take (ps .count) (ps .places) in let i
+    = turn .loop .i in map responseLength (drop i live) ≡ c .before .before .before .before .response-length .result
+    ∷ map responseLength (drop (i + 1) live)
 lens c =
     let len = c .before .before .before .before in
-    let turn = c .before .before .before .before .before .before .before in
+    let in-loop = len .before .before in
+    let turn = in-loop .before in
     let start = turn .before .before .before in
     let ps = start .args .ps in
     let ten : length (ps .places) ≡ 10 = places-10 ps _ (start .good .1 .1 .1 .0) in
-    map-live responseLength (ps .places) (ps .count) (turn .loop .i) _ _ (c .before .before .before .before .before .before .loop-test .taken) (omega arith) (len .response-length .ensures)
+    map-live responseLength (ps .places) (ps .count) (turn .loop .i) _ _ (in-loop .loop-test .taken) (omega arith)
+    (len .response-length .ensures)
 
 add-p : tie.Need-add-p Inv-loop μ-loop
 add-p c = omega arith
@@ -88,9 +97,11 @@ loop-again c =
 written : tie.Need-returns Inv-loop μ-loop
 unfolding total pairs put placesOf
 written c =
-    let ps = c .before .before .before .before .args .ps in
+    let start = c .before .before .before .before in
+    let ps = start .args .ps in
     let l = c .before .loop in
-    let none : drop (l .i) (take (ps .count) (ps .places)) ≡ [] = drop-of-length-le (take (ps .count) (ps .places)) {i = l .i} (rw length-take (omega arith)) in
+    let none : drop (l .i) (take (ps .count) (ps .places)) ≡ [] =
+    drop-of-length-le (take (ps .count) (ps .places)) {i = l .i} (rw length-take (omega arith)) in
     (omega (arith, rw none at (l .inv .3)), rw none at (l .inv .4))
 
 same-length : tie.Need-same-length Inv-loop μ-loop

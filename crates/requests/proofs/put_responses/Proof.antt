@@ -33,9 +33,12 @@ next source out after start len ps i d b h ten l room w e =
     let place = getD (ps .places) i d in
     let bytes = encodeResponse (responseAt source place) in
     let few : ps .count ≤ 10 = places-few _ ps h in
-    let live : drop i (placesOf ps) ≡ place ∷ drop (i + 1) (placesOf ps) = drop-live (ps .places) (ps .count) i d l (omega arith) in
-    let size : length bytes ≡ len = length-at source b place (response-held _ place (place-held _ ps h ten i d l)) ∙ sym e in
-    rw (w, put-lent out start bytes (omega (arith, rw live at room)), live) (put-next out start bytes (start + len) _ (ap (λ (n : ℕ). start + n) size))
+    let live : drop i (placesOf ps) ≡ place ∷ drop (i + 1) (placesOf ps) =
+    drop-live (ps .places) (ps .count) i d l (omega arith) in
+    let size : length bytes ≡ len =
+    length-at source b place (response-held _ place (place-held _ ps h ten i d l)) ∙ sym e in
+    rw (w, put-lent out start bytes (omega (arith, rw live at room)), live)
+    (put-next out start bytes (start + len) _ (ap (λ (n : ℕ). start + n) size))
 
 abbrev Inv-loop : tie.InvT-loop
 Inv-loop out₀ at source places count start₀ i₀ out start i =
@@ -59,24 +62,34 @@ array-copy-out-place c = omega arith
 write-nested-requires : tie.Need-write-nested-requires Inv-loop μ-loop
 unfolding placesOf
 write-nested-requires c κs =
-    let start = c .before .before .before .before .before .before .before in
+    let at-loop = c .before .before .before in
+    let start = at-loop .before .before .before .before in
     let ps = start .args .ps in
-    let ok = start .pre .2 in
-    (omega (arith, places-short _ ps ok), place-held _ ps ok (places-10 ps _ (start .good .1 .1 .1 .0)) (c .before .before .before .loop .i) _ (c .before .before .loop-test .taken))
+    let ok = start .pre .2 in (
+      omega (arith, places-short _ ps ok),
+      place-held _ ps ok (places-10 ps _ (start .good .1 .1 .1 .0)) (at-loop .loop .i) _
+          (c .before .before .loop-test .taken),
+    )
 
 response-length-requires : tie.Need-response-length-requires Inv-loop μ-loop
 response-length-requires c κs =
-    let turn = c .before .before .before .before .before .before in
+    let in-loop = c .before .before .before .before .before in
+    let turn = in-loop .before in
     let start = turn .before .before .before .before in
     let ps = start .args .ps in
-    response-few _ _ (place-held _ ps (start .pre .2) (places-10 ps _ (start .good .1 .1 .1 .0)) (turn .loop .i) _ (c .before .before .before .before .before .loop-test .taken))
+    response-few _ _
+    (place-held _ ps (start .pre .2) (places-10 ps _ (start .good .1 .1 .1 .0)) (turn .loop .i) _
+    (in-loop .loop-test .taken))
 
 cast-start : tie.Need-cast-start Inv-loop μ-loop
 cast-start c = omega arith
 
 add-start : tie.Need-add-start Inv-loop μ-loop
 unfolding placesOf
-add-start c = omega (arith, places-short _ _ (c .before .before .before .before .before .before .before .before .before .before .before .pre .2))
+add-start c =
+    let at-loop = c .before .before .before .before .before .before .before in
+    let start = at-loop .before .before .before .before in
+    omega (arith, places-short _ _ (start .pre .2))
 
 add-i : tie.Need-add-i Inv-loop μ-loop
 add-i c = omega arith
@@ -87,22 +100,26 @@ loop-less c = omega arith
 loop-again : tie.Need-loop-again Inv-loop μ-loop
 unfolding total placesOf
 loop-again c =
-    let turn = c .before .before .before .before .before .before .before in
-    let start = turn .before .before .before .before in
+    let after-write-nested = c .before .before .before in
+    let in-loop = after-write-nested .before .before .before in
+    let turn = in-loop .before in
+    let after-shared-slice-known = turn .before .before in
+    let start = after-shared-slice-known .before .before in
     let a = start .args in
     let ok = start .pre .2 in
     let l = turn .loop in
-    let i = c .before .before .before .before .before .before .loop-test .taken in
-    let nested = c .before .before .before .write-nested in
+    let i = in-loop .loop-test .taken in
+    let nested = after-write-nested .write-nested in
     let ten : length (a .ps .places) ≡ 10 = places-10 (a .ps) _ (start .good .1 .1 .1 .0) in
-    let lens = map-live responseLength (a .ps .places) (a .ps .count) (l .i) _ _ i (omega arith) (c .response-length .ensures) in (
+    let lens = map-live responseLength (a .ps .places) (a .ps .count) (l .i) _ _ i (omega arith)
+    (c .response-length .ensures) in (
       omega arith,
       omega arith,
       nested .kept .0 ∙ l .inv .2,
       omega (arith, rw lens at (l .inv .3)),
-      next (now (a .source)) (l .out) _ (l .start) _ (a .ps) (l .i) _ (λ k. turn .before .before .shared-slice-known .given k .fits) ok ten i
-          (omega (arith, places-short _ (a .ps) ok)) (nested .ensures .1) (c .response-length .ensures)
-          ∙ l .inv .4,
+      next (now (a .source)) (l .out) _ (l .start) _ (a .ps) (l .i) _
+          (λ k. after-shared-slice-known .shared-slice-known .given k .fits) ok ten i
+          (omega (arith, places-short _ (a .ps) ok)) (nested .ensures .1) (c .response-length .ensures) ∙ l .inv .4,
     )
 
 same-length : tie.Need-same-length Inv-loop μ-loop

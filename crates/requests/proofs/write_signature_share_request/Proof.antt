@@ -41,8 +41,10 @@ are-responses-held-requires c κs = search needs
 returns-3 : tie.Need-returns-3
 unfolding writeShareRequest
 returns-3 c =
+    let else1 = c .before .before .before in
     let held = c .before .are-responses-held in
-    refused-9 _ _ _ (c .before .before .before .if1 .left) (rw (le-leb _ _ (c .before .before .if2 .left), ← held .ensures, not-true (held .result) (c .if3 .taken)))
+    refused-9 _ _ _ (else1 .if1 .left)
+    (rw (le-leb _ _ (c .before .before .if2 .left), ← held .ensures, not-true (held .result) (c .if3 .taken)))
 
 -- the places hold
 hold :
@@ -72,9 +74,18 @@ put-request-frame-requires c κs = (omega (arith, places-few _ _ (hold (c .befor
 
 put-response-pairs-requires : tie.Need-put-response-pairs-requires
 put-response-pairs-requires c κs =
-    let held = c .before .before .before .before .before .before in
-    let ok = hold held in
-    (omega (arith, places-few _ _ ok, c .before .before .before .put-request-frame .ensures .0, length-rootOf (held .before .before .before .before .before .before .before .args .head)), ok)
+    let after-put-request-frame = c .before .before .before in
+    let held = after-put-request-frame .before .before .before in
+    let start = held .before .before .before .before .before .before .before in
+    let ok = hold held in (
+      omega (
+        arith,
+        places-few _ _ ok,
+        after-put-request-frame .put-request-frame .ensures .0,
+        length-rootOf (start .args .head),
+      ),
+      ok,
+    )
 
 cast-put-body : tie.Need-cast-put-body
 cast-put-body c = search needs
@@ -90,12 +101,13 @@ put-body-requires c κs = search needs
 
 put-responses-requires : tie.Need-put-responses-requires
 put-responses-requires c κs =
-    let held = c .before .before .before .before .before .before .before .before .before .before .before .before .before .before in
-    let ok = hold held in
     let body = c .before .before .before in
     let pairs = body .before .before .before .before in
-    let frame = pairs .before .before .before .before in (
-      omega (arith, places-few _ _ ok, frame .put-request-frame .ensures .0, length-rootOf (held .before .before .before .before .before .before .before .args .head)),
+    let frame = pairs .before .before .before .before in
+    let held = frame .before .before .before in
+    let start = held .before .before .before .before .before .before .before in
+    let ok = hold held in (
+      omega (arith, places-few _ _ ok, frame .put-request-frame .ensures .0, length-rootOf (start .args .head)),
       omega (arith, body .put-body .kept .0, pairs .put-response-pairs .kept .0, frame .put-request-frame .kept .0),
       ok,
     )
@@ -109,8 +121,14 @@ same-length c = search needs
 returns-4 : tie.Need-returns-4
 unfolding writeShareRequest shareRequestOf encode header parts
 returns-4 c =
-    let held = c .before .before .before .before .before .before .before .before .before .before .before .before .before .before .before .before .before in
-    let start = held .before .before .before .before .before .before .before in
+    let body = c .before .before .before .before .before .before in
+    let after-put-response-pairs = body .before .before .before .before in
+    let after-put-request-frame = after-put-response-pairs .before .before .before .before in
+    let held = after-put-request-frame .before .before .before in
+    let else2 = held .before .before in
+    let else1 = else2 .before in
+    let after-shared-slice-known2 = else1 .before in
+    let start = after-shared-slice-known2 .before .before .before in
     let a = start .args in
     let message = now (a .message) in
     let source = now (a .source) in
@@ -118,19 +136,22 @@ returns-4 c =
     let ps = placesOf (a .ps) in
     let rs = map encodeResponse (map (responseAt source) ps) in
     let ok = hold held in
-    let body = c .before .before .before .before .before .before in
-    let pairs = body .before .before .before .before .put-response-pairs .ensures in
-    let frame = body .before .before .before .before .before .before .before .before .put-request-frame .ensures in
+    let pairs = after-put-response-pairs .put-response-pairs .ensures in
+    let frame = after-put-request-frame .put-request-frame .ensures in
     let few : a .ps .count ≤ 10 = places-few _ (a .ps) ok in
     let ten : length (a .ps .places) ≡ 10 = places-10 (a .ps) _ (start .good .1 .1 .1 .1 .0) in
     let live : length ps ≡ a .ps .count = length-placesOf (a .ps) (omega arith) in
     let n : length (map (responseAt source) ps) ≡ a .ps .count % 65536 = rw length-map (omega arith) in
     let at : 48 + 8 * (a .ps .count % 65536) ≡ 48 + 8 * length rs = rw (length-map, n) in
-    let lens : map length rs ≡ map responseLength ps = lengths-at source (λ i. held .before .before .before .before .shared-slice-known2 .given i .fits) ps (places-hold _ (a .ps) ok) in
-    wrote _ _ _ (held .before .before .before .if1 .left) (and-both _ _ (le-leb _ _ (held .before .before .if2 .left)) ok) _ _
-    (length-request _ message root rs (48 + 8 * (a .ps .count % 65536)) at ∙ rw lens (omega (arith, frame .0, pairs .0)))
-    (omega (arith, frame .0, pairs .0, held .before .before .if2 .left, length-rootOf (a .head), places-short _ (a .ps) ok))
-    (rw (c .before .before .put-responses .ensures, body .put-body .ensures, pairs .1, frame .1, frame .0, ← lens, n) (put-request _ message root rs _ at _))
+    let lens : map length rs ≡ map responseLength ps =
+    lengths-at source (λ i. after-shared-slice-known2 .shared-slice-known2 .given i .fits) ps
+    (places-hold _ (a .ps) ok) in
+    wrote _ _ _ (else1 .if1 .left) (and-both _ _ (le-leb _ _ (else2 .if2 .left)) ok) _ _
+    (length-request _ message root rs (48 + 8 * (a .ps .count % 65536)) at
+    ∙ rw lens (omega (arith, frame .0, pairs .0)))
+    (omega (arith, frame .0, pairs .0, else2 .if2 .left, length-rootOf (a .head), places-short _ (a .ps) ok))
+    (rw (c .before .before .put-responses .ensures, body .put-body .ensures, pairs .1, frame .1, frame .0, ← lens, n)
+    (put-request _ message root rs _ at _))
 
 pub write-signature-share-request-spec : {M : Type 1} → statement M
 write-signature-share-request-spec =

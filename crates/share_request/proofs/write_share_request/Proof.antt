@@ -41,12 +41,19 @@ same-length c = search needs
 -- src/lib.rt:13:1
 returns : tie.Need-returns
 returns c =
-    let a = c .before .before .before .before .before .before .before .before .before .before .before .before .before .before .before .args in
-    let places = c .before .before .before .before .before .before .before .response-places in
-    let walked : placesOf (places .result) ≡ collect (placeIn (a .r) (getD (a .s .records .rows) (a .r) noRow)) (slotsOf (a .s .config)) =
-    places .ensures .0 ∙ ap (collect (placeIn (a .r) (getD (a .s .records .rows) (a .r) noRow))) (c .before .before .before .before .before .before .before .before .before .before .ascending .ensures .0) in
-    rw (← writes (a .s) (a .store .now) (a .r) (a .message .now) (a .signature-type) (length (a .out .now)) (c .before .before .before .before .before .before .before .before .before .before .before .before .before .before .before .pre) (places .result) (places .ensures .1) walked)
-    (c .before .before .write-signature-share-request .ensures)
+    let after-response-places = c .before .before .before .before .before .before .before in
+    let after-ascending = after-response-places .before .before .before in
+    let start = after-ascending .before .before .before .before .before in
+    let a = start .args in
+    let places = after-response-places .response-places in
+    let walked : placesOf (places .result) ≡ collect (placeIn (a .r) (getD (a .s .records .rows) (a .r) noRow))
+    (slotsOf (a .s .config)) =
+    places .ensures .0
+    ∙ ap (collect (placeIn (a .r) (getD (a .s .records .rows) (a .r) noRow)))
+    (after-ascending .ascending .ensures .0) in
+    rw
+    (← writes (a .s) (a .store .now) (a .r) (a .message .now) (a .signature-type) (length (a .out .now)) (start .pre)
+    (places .result) (places .ensures .1) walked) (c .before .before .write-signature-share-request .ensures)
 
 pub write-share-request-spec : {M : Type 1} → statement M
 write-share-request-spec =

@@ -22,7 +22,10 @@ element-copy-out-row : tie.Need-element-copy-out-row
 element-copy-out-row c = search needs
 
 job-places-requires : tie.Need-job-places-requires
-job-places-requires c κs = (omega (arith, c .before .before .before .before .before .before .before .before .pre .row), c .before .before .before .ascending .ensures .1)
+job-places-requires c κs =
+    let after-ascending = c .before .before .before in
+    let start = after-ascending .before .before .before .before .before in
+    (omega (arith, start .pre .row), after-ascending .ascending .ensures .1)
 
 write-job-requires : tie.Need-write-job-requires
 write-job-requires c κs = tt
@@ -32,14 +35,18 @@ same-length c = search needs
 
 returns : tie.Need-returns
 returns c =
-    let start = c .before .before .before .before .before .before .before .before .before .before .before .before .before .before .before .before in
+    let after-job-places = c .before .before .before .before .before .before .before in
+    let after-ascending = after-job-places .before .before .before .before in
+    let start = after-ascending .before .before .before .before .before in
     let a = start .args in
-    let places = c .before .before .before .before .before .before .before .job-places in
-    let in-order = c .before .before .before .before .before .before .before .before .before .before .before .ascending .ensures .0 in
+    let places = after-job-places .job-places in
+    let in-order = after-ascending .ascending .ensures .0 in
     let f = jobPlaceIn (a .r) (getD (a .s .records .rows) (a .r) noRow) (a .s .shares) in
-    let walked : signersIn (places .result) ≡ collect f (slotsOf (a .s .config)) = places .ensures .0 ∙ ap (collect f) in-order in
-    rw (← writes (a .s) (a .store .now) (a .r) (a .message .now) (a .signature-type) (length (a .out .now)) (start .pre) (places .result) (places .ensures .1) walked)
-    (c .before .before .write-job .ensures)
+    let walked : signersIn (places .result) ≡ collect f (slotsOf (a .s .config)) =
+    places .ensures .0 ∙ ap (collect f) in-order in
+    rw
+    (← writes (a .s) (a .store .now) (a .r) (a .message .now) (a .signature-type) (length (a .out .now)) (start .pre)
+    (places .result) (places .ensures .1) walked) (c .before .before .write-job .ensures)
 
 pub write-signing-job-spec : {M : Type 1} → statement M
 write-signing-job-spec =

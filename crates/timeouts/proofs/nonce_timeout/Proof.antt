@@ -17,8 +17,11 @@ refused-requires c κs = tt
 
 returns : tie.Need-returns
 returns c =
-    let a = c .before .before .before .before .before .before .args in
-    no-record-did (a .s) (now (a .store)) _ (c .before .before .before .current-place .ensures) (now (a .out)) (c .before .if1 .taken) (c .refused .ensures)
+    let after-current-place = c .before .before .before in
+    let start = after-current-place .before .before .before in
+    let a = start .args in
+    no-record-did (a .s) (now (a .store)) _ (after-current-place .current-place .ensures) (now (a .out))
+    (c .before .if1 .taken) (c .refused .ensures)
 
 mul-row : tie.Need-mul-row
 mul-row c = search needs
@@ -46,21 +49,29 @@ same-length c = search needs
 
 returns-2 : tie.Need-returns-2
 returns-2 c =
-    let a = c .before .before .before .before .before .before .before .before .before .before .before .before .before .before .before .before .before .args in
-    let place = c .before .before .before .before .before .before .before .before .before .before .before .before .before .before .current-place in
-    let w = c .before .before .before .before .before .before .write-nonce-timeout in
+    let after-write-nonce-timeout = c .before .before .before .before .before .before in
+    let else1 = after-write-nonce-timeout .before .before .before .before .before .before in
+    let after-current-place = else1 .before .before in
+    let start = after-current-place .before .before .before in
+    let a = start .args in
+    let place = after-current-place .current-place in
+    let w = after-write-nonce-timeout .write-nonce-timeout in
     let wrote = bytes-written (a .s) (now (a .store)) (place .result) (place .ensures) (w .ensures) in
     let told = c .before .before .written .given .1 in
-    timeout-did (a .s) (now (a .store)) (place .result) (place .ensures) (omega (arith, c .before .before .before .before .before .before .before .before .before .before .before .before .if1 .left)) (c .sending .ensures) (cc) (w .ensures)
+    timeout-did (a .s) (now (a .store)) (place .result) (place .ensures) (omega (arith, else1 .if1 .left))
+    (c .sending .ensures) (cc) (w .ensures)
 
 same-length-2 : tie.Need-same-length-2
 same-length-2 c = search needs
 
 returns-3 : tie.Need-returns-3
 returns-3 c =
-    let a = c .before .before .before .before .before .before .before .before .before .before .before .before .before .before .before .before .args in
-    let place = c .before .before .before .before .before .before .before .before .before .before .before .before .before .current-place in
-    let w = c .before .before .before .before .before .write-nonce-timeout in
+    let after-write-nonce-timeout = c .before .before .before .before .before in
+    let after-current-place = after-write-nonce-timeout .before .before .before .before .before .before .before .before in
+    let start = after-current-place .before .before .before in
+    let a = start .args in
+    let place = after-current-place .current-place in
+    let w = after-write-nonce-timeout .write-nonce-timeout in
     let wrote = bytes-written (a .s) (now (a .store)) (place .result) (place .ensures) (w .ensures) in
     let told = c .before .enum-told .given .1 in
     let z : _≡_ {A = ℕ} 0 1 = cc in

@@ -72,9 +72,13 @@ same-length : tie.Need-same-length Inv-loop μ-loop
 same-length c = c .before .loop .inv .1
 
 returns-2 : tie.Need-returns-2 Inv-loop μ-loop
-returns-2 c = let v = c .before .loop in
-    let a = c .before .before .before .before .before .before .args in
-    sym (done (v .out) (a .src .now) (a .at) (v .j) (λ h. omega (arith, c .before .before .smaller .ensures .2 (omega (arith, h))))) ∙ v .inv .2
+returns-2 c =
+    let start = c .before .before .before .before .before .before in
+    let v = c .before .loop in
+    let a = start .args in
+    sym
+    (done (v .out) (a .src .now) (a .at) (v .j)
+    (λ h. omega (arith, c .before .before .smaller .ensures .2 (omega (arith, h))))) ∙ v .inv .2
 
 pub copy-spec : {M : Type 1} → statement M
 copy-spec =

@@ -57,7 +57,16 @@ add-result-3 : tie.Need-add-result-3
 add-result-3 c = search needs
 
 returns : tie.Need-returns
-returns c = let a = c .before .before .before .before .before .before .before .before .before .args in rw (c .before .before .before .wide .ensures .0, c .before .before .wide2 .ensures .0, c .before .wide3 .ensures .0, c .wide4 .ensures .0) (number-four (now (a .s)) (a .at) (c .before .before .before .before .before .before .before .before .before .pre))
+returns c =
+    let after-wide = c .before .before .before in
+    let start = after-wide .before .before .before .before .before .before in
+    let a = start .args in
+    rw (
+      after-wide .wide .ensures .0,
+      c .before .before .wide2 .ensures .0,
+      c .before .wide3 .ensures .0,
+      c .wide4 .ensures .0,
+    ) (number-four (now (a .s)) (a .at) (start .pre))
 
 pub four-spec : {M : Type 1} → statement M
 four-spec =

@@ -14,12 +14,17 @@ use Rattle.wire.specs.Bytes.{number}
 use Rattle.wire.proofs.Numbers.{number-drop}
 
 -- one byte more below the number
-more : (s : List ℕ) (n i x b : ℕ) → 0 < i → i ≤ n → x ≡ number (drop i (take n s)) → b ≡ getD s (i - 1) 0 → x * 256 + b ≡ number (drop (i - 1) (take n s))
+more :
+    (s : List ℕ) (n i x b : ℕ) → 0 < i → i ≤ n → x ≡ number (drop i (take n s)) → b ≡ getD s (i - 1) 0
+    → x * 256 + b ≡ number (drop (i - 1) (take n s))
 more s n i x b hi hn hx hb =
     let e : suc (i - 1) ≡ i = omega arith in
-    let d : number (drop (i - 1) (take n s)) ≡ getD (take n s) (i - 1) 0 + 256 * number (drop (suc (i - 1)) (take n s)) = number-drop (take n s) (i - 1) in
+    let d : number (drop (i - 1) (take n s)) ≡ getD (take n s) (i - 1) 0 + 256 * number
+    (drop (suc (i - 1)) (take n s)) =
+    number-drop (take n s) (i - 1) in
     let g : getD (take n s) (i - 1) 0 ≡ getD s (i - 1) 0 = getD-take n s (i - 1) 0 (omega arith) in
-    let d′ : number (drop (i - 1) (take n s)) ≡ getD s (i - 1) 0 + 256 * number (drop i (take n s)) = rw (e, g) at d in
+    let d′ : number (drop (i - 1) (take n s)) ≡ getD s (i - 1) 0 + 256 * number (drop i (take n s)) =
+    rw (e, g) at d in
     omega arith
 
 -- and its bound
@@ -52,21 +57,43 @@ byte-requires : tie.Need-byte-requires Inv-loop μ-loop
 byte-requires c κs = search needs
 
 mul-x : tie.Need-mul-x Inv-loop μ-loop
-mul-x c = omega (arith, bound _ _ _ 0 (c .before .loop-test .taken) (c .before .before .loop .inv .0) (c .before .before .loop .inv .2) (omega arith), top (c .before .before .before .before .args .n) (c .before .before .loop .i - 1) (c .before .before .before .before .pre))
+mul-x c =
+    let at-loop = c .before .before in
+    let start = at-loop .before .before in
+    omega (
+      arith,
+      bound _ _ _ 0 (c .before .loop-test .taken) (at-loop .loop .inv .0) (at-loop .loop .inv .2) (omega arith),
+      top (start .args .n) (at-loop .loop .i - 1) (start .pre),
+    )
 
 cast-x : tie.Need-cast-x Inv-loop μ-loop
 cast-x c = search needs
 
 add-x : tie.Need-add-x Inv-loop μ-loop
-add-x c = omega (arith, bound _ _ _ (c .byte .result) (c .before .loop-test .taken) (c .before .before .loop .inv .0) (c .before .before .loop .inv .2) (omega arith), top (c .before .before .before .before .args .n) (c .before .before .loop .i - 1) (c .before .before .before .before .pre))
+add-x c =
+    let at-loop = c .before .before in
+    let start = at-loop .before .before in
+    omega (
+      arith,
+      bound _ _ _ (c .byte .result) (c .before .loop-test .taken) (at-loop .loop .inv .0) (at-loop .loop .inv .2)
+          (omega arith),
+      top (start .args .n) (at-loop .loop .i - 1) (start .pre),
+    )
 
 loop-less : tie.Need-loop-less Inv-loop μ-loop
 loop-less c = omega arith
 
 loop-again : tie.Need-loop-again Inv-loop μ-loop
-loop-again c = let v = c .before .before .loop in
-    let a = c .before .before .before .before .args in
-    (omega arith, more (a .s .now) (a .n) (v .i) (v .x) (c .byte .result) (c .before .loop-test .taken) (v .inv .0) (v .inv .1) (c .byte .ensures), bound _ _ _ _ (c .before .loop-test .taken) (v .inv .0) (v .inv .2) (omega arith))
+loop-again c =
+    let in-loop = c .before in
+    let start = in-loop .before .before .before in
+    let v = c .before .before .loop in
+    let a = start .args in (
+      omega arith,
+      more (a .s .now) (a .n) (v .i) (v .x) (c .byte .result) (in-loop .loop-test .taken) (v .inv .0) (v .inv .1)
+          (c .byte .ensures),
+      bound _ _ _ _ (in-loop .loop-test .taken) (v .inv .0) (v .inv .2) (omega arith),
+    )
 
 returns : tie.Need-returns Inv-loop μ-loop
 returns c = let v = c .before .loop in

@@ -25,12 +25,18 @@ number-requires : tie.Need-number-requires
 number-requires c κs = search needs
 
 returns : tie.Need-returns
-returns c = let a = c .before .before .before .before .args in
-    c .number .ensures ∙ ap (λ (l : List ℕ). number (take (a .n) l)) (take-all (length (now (a .s)) - a .at) (drop (a .at) (now (a .s))) (le-of-eq (length-drop (a .at) (now (a .s)))))
+returns c =
+    let start = c .before .before .before .before in
+    let a = start .args in
+    c .number .ensures
+    ∙ ap (λ (l : List ℕ). number (take (a .n) l))
+    (take-all (length (now (a .s)) - a .at) (drop (a .at) (now (a .s))) (le-of-eq (length-drop (a .at) (now (a .s)))))
 
 returns-2 : tie.Need-returns-2
 unfolding number
-returns-2 c = let a = c .before .before .args in rw (drop-of-length-le (now (a .s)) (c .if1 .left)) (ap number (sym (take-nil {A = ℕ} (a .n))))
+returns-2 c =
+    let a = c .before .before .args in
+    rw (drop-of-length-le (now (a .s)) (c .if1 .left)) (ap number (sym (take-nil {A = ℕ} (a .n))))
 
 pub number-at-spec : {M : Type 1} → statement M
 number-at-spec =

@@ -21,7 +21,9 @@ slice-aggregate-result : tie.Need-slice-aggregate-result
 slice-aggregate-result c = search needs
 
 returns : tie.Need-returns
-returns c = let a = c .before .before .args in rw (drop-of-length-le (now (a .s)) (le-of-lt (c .before .if1 .taken))) (sym (take-nil {A = ℕ} (a .n)))
+returns c =
+    let a = c .before .before .args in
+    rw (drop-of-length-le (now (a .s)) (le-of-lt (c .before .if1 .taken))) (sym (take-nil {A = ℕ} (a .n)))
 
 sub-if2 : tie.Need-sub-if2
 sub-if2 c = search needs
@@ -36,7 +38,11 @@ part-result-end : tie.Need-part-result-end
 part-result-end c = search needs
 
 returns-2 : tie.Need-returns-2
-returns-2 c = let a = c .before .before .before .args in both-all (now (a .s)) (a .at) (a .n) (length (now (a .s)) - a .at) (le-of-lt (c .before .if2 .taken)) (omega arith)
+returns-2 c =
+    let start = c .before .before .before in
+    let a = start .args in
+    both-all (now (a .s)) (a .at) (a .n) (length (now (a .s)) - a .at) (le-of-lt (c .before .if2 .taken))
+    (omega arith)
 
 add-result : tie.Need-add-result
 add-result c = search needs
@@ -51,7 +57,10 @@ part-result-end-2 : tie.Need-part-result-end-2
 part-result-end-2 c = search needs
 
 returns-3 : tie.Need-returns-3
-returns-3 c = let a = c .before .before .before .args in ap (λ (k : ℕ). take k (drop (a .at) (now (a .s)))) (add-sub-cancel-left (a .at) (a .n))
+returns-3 c =
+    let start = c .before .before .before in
+    let a = start .args in
+    ap (λ (k : ℕ). take k (drop (a .at) (now (a .s)))) (add-sub-cancel-left (a .at) (a .n))
 
 pub part-spec : {M : Type 1} → statement M
 part-spec =

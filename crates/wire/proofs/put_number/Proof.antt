@@ -12,32 +12,70 @@ use Rattle.wire.proofs.Buffer.{put-next, length-put}
 use Rattle.wire.proofs.Numbers.{inside, le-halves, length-le}
 
 -- two halves, one after the other
-halves : (out mid after : List ℕ) (at n x : ℕ) → n ≡ 8 → mid ≡ put out at (le 4 x) → after ≡ put mid (at + 4) (le 4 (x / 4294967296)) → after ≡ put out at (le n x)
-halves out mid after at n x e m a = rw (e, a, m) (put-next out at (le 4 x) (at + 4) (le 4 (x / 4294967296)) (ap (λ (k : ℕ). at + k) (length-le 4 x)) ∙ ap (put out at) (le-halves x))
+halves :
+    (out mid after : List ℕ) (at n x : ℕ) → n ≡ 8 → mid ≡ put out at (le 4 x)
+    → after ≡ put mid (at + 4) (le 4 (x / 4294967296)) → after ≡ put out at (le n x)
+halves out mid after at n x e m a =
+    rw (e, a, m)
+    (put-next out at (le 4 x) (at + 4) (le 4 (x / 4294967296)) (ap (λ (k : ℕ). at + k) (length-le 4 x))
+    ∙ ap (put out at) (le-halves x))
 
 is-inside-requires : tie.Need-is-inside-requires
 is-inside-requires c κs = search needs
 
 put-four-requires : tie.Need-put-four-requires
-put-four-requires c κs = let a = c .before .before .before .before .before .args in omega (arith, inside (a .at) 8 (length (now (a .out))) (c .before .before .is-inside .ensures) (c .before .if2 .taken))
+put-four-requires c κs =
+    let start = c .before .before .before .before .before in
+    let a = start .args in
+    omega (
+      arith,
+      inside (a .at) 8 (length (now (a .out))) (c .before .before .is-inside .ensures) (c .before .if2 .taken),
+    )
 
 add-put-four : tie.Need-add-put-four
-add-put-four c = let a = c .before .before .before .before .before .before .before .before .before .args in record { fits = omega (arith, inside (a .at) 8 (length (now (a .out))) (c .before .before .before .before .before .before .is-inside .ensures) (c .before .before .before .before .before .if2 .taken)) }
+add-put-four c =
+    let then2 = c .before .before .before .before .before in
+    let after-is-inside = then2 .before in
+    let start = after-is-inside .before .before .before in
+    let a = start .args in
+    record {
+      fits = omega
+          (arith, inside (a .at) 8 (length (now (a .out))) (after-is-inside .is-inside .ensures) (then2 .if2 .taken));
+    }
 
 put-four-requires-2 : tie.Need-put-four-requires-2
-put-four-requires-2 c κs = let a = c .before .before .before .before .before .before .before .before .before .args in rw (c .before .before .before .put-four .ensures, length-put) (omega (arith, inside (a .at) 8 (length (now (a .out))) (c .before .before .before .before .before .before .is-inside .ensures) (c .before .before .before .before .before .if2 .taken)))
+put-four-requires-2 c κs =
+    let after-put-four = c .before .before .before in
+    let then2 = after-put-four .before .before in
+    let after-is-inside = then2 .before in
+    let start = after-is-inside .before .before .before in
+    let a = start .args in
+    rw (after-put-four .put-four .ensures, length-put)
+    (omega (
+      arith,
+      inside (a .at) 8 (length (now (a .out))) (after-is-inside .is-inside .ensures) (then2 .if2 .taken),
+    ))
 
 same-length : tie.Need-same-length
 same-length c = search needs
 
 returns : tie.Need-returns
-returns c = let a = c .before .before .before .before .before .before .before .before .before .before .before .before .args in halves (now (a .out)) _ _ (a .at) (a .n) (a .x) (c .before .before .before .before .before .before .before .before .before .before .if1 .taken) (c .before .before .before .before .before .before .put-four .ensures) (c .before .before .put-four2 .ensures)
+returns c =
+    let after-put-four = c .before .before .before .before .before .before in
+    let then1 = after-put-four .before .before .before .before in
+    let start = then1 .before .before in
+    let a = start .args in
+    halves (now (a .out)) _ _ (a .at) (a .n) (a .x) (then1 .if1 .taken) (after-put-four .put-four .ensures)
+    (c .before .before .put-four2 .ensures)
 
 is-inside-requires-2 : tie.Need-is-inside-requires-2
 is-inside-requires-2 c κs = search needs
 
 put-four-requires-3 : tie.Need-put-four-requires-3
-put-four-requires-3 c κs = let a = c .before .before .before .before .before .before .args in inside (a .at) 4 (length (now (a .out))) (c .before .before .is-inside2 .ensures) (c .before .if4 .taken)
+put-four-requires-3 c κs =
+    let start = c .before .before .before .before .before .before in
+    let a = start .args in
+    inside (a .at) 4 (length (now (a .out))) (c .before .before .is-inside2 .ensures) (c .before .if4 .taken)
 
 same-length-2 : tie.Need-same-length-2
 same-length-2 c = search needs

@@ -18,7 +18,9 @@ use Rattle.wire.specs.Bytes.{sameBytes}
 use Rattle.wire.proofs.Lists.{and-false}
 
 -- one byte on each side
-step : (a b : List ℕ) (i : ℕ) → i < length a → length a ≡ length b → sameBytes (drop i a) (drop i b) ≡ (eqb (getD a i 0) (getD b i 0) && sameBytes (drop (suc i) a) (drop (suc i) b))
+step :
+    (a b : List ℕ) (i : ℕ) → i < length a → length a ≡ length b
+    → sameBytes (drop i a) (drop i b) ≡ (eqb (getD a i 0) (getD b i 0) && sameBytes (drop (suc i) a) (drop (suc i) b))
 unfolding sameBytes
 step a b i ha e = rw (drop-cons a i 0 ha, drop-cons b i 0 (omega arith))
 
@@ -54,7 +56,9 @@ all-yes true r e = sym e
 all-yes false r e = refl
 
 abbrev Inv-loop : tie.InvT-loop
-Inv-loop a b n so-far₀ i₀ so-far i = (i ≤ length a) × (length a ≡ length b) × (n ≡ length a) × ((so-far && sameBytes (drop i a) (drop i b)) ≡ sameBytes a b)
+Inv-loop a b n so-far₀ i₀ so-far i =
+    (i ≤ length a) × (length a ≡ length b) × (n ≡ length a)
+    × ((so-far && sameBytes (drop i a) (drop i b)) ≡ sameBytes a b)
 
 abbrev μ-loop : tie.MeasureT-loop
 μ-loop a b n so-far₀ i₀ so-far i = length a - i
@@ -63,7 +67,9 @@ returns : tie.Need-returns Inv-loop μ-loop
 returns c = longer _ _ (c .if1 .taken)
 
 returns-2 : tie.Need-returns-2 Inv-loop μ-loop
-returns-2 c = ended (now (c .before .before .before .before .args .a)) (now (c .before .before .before .before .args .b)) 0 (omega arith) (c .before .if1 .left)
+returns-2 c =
+    let start = c .before .before .before .before in
+    ended (now (start .args .a)) (now (start .args .b)) 0 (omega arith) (c .before .if1 .left)
 
 sub-if3 : tie.Need-sub-if3 Inv-loop μ-loop
 sub-if3 c = omega arith
@@ -99,11 +105,27 @@ loop-less : tie.Need-loop-less Inv-loop μ-loop
 loop-less c = omega arith
 
 loop-again : tie.Need-loop-again Inv-loop μ-loop
-loop-again c = let v = c .before .before .before .before .loop in let a = c .before .before .before .before .before .before .before .before .before .before .before .before .args in
-    (omega arith, v .inv .1, refl, rw (add-one, c .still .ensures) (moved (eqb (getD (now (a .a)) (v .i) 0) (getD (now (a .b)) (v .i) 0)) (v .so-far) (sameBytes (drop (suc (v .i)) (now (a .a))) (drop (suc (v .i)) (now (a .b)))) ∙ ap (λ (t : Bool). v .so-far && t) (sym (step (now (a .a)) (now (a .b)) (v .i) (omega arith) (v .inv .1))) ∙ v .inv .3))
+loop-again c =
+    let at-loop = c .before .before .before .before in
+    let start = at-loop .before .before .before .before .before .before .before .before in
+    let v = at-loop .loop in
+    let a = start .args in (
+      omega arith,
+      v .inv .1,
+      refl,
+      rw (add-one, c .still .ensures)
+          (moved (eqb (getD (now (a .a)) (v .i) 0) (getD (now (a .b)) (v .i) 0)) (v .so-far)
+          (sameBytes (drop (suc (v .i)) (now (a .a))) (drop (suc (v .i)) (now (a .b))))
+          ∙ ap (λ (t : Bool). v .so-far && t) (sym (step (now (a .a)) (now (a .b)) (v .i) (omega arith) (v .inv .1)))
+          ∙ v .inv .3),
+    )
 
 returns-4 : tie.Need-returns-4 Inv-loop μ-loop
-returns-4 c = let v = c .before .loop in let a = c .before .before .before .before .before .before .before .before .before .args in
+returns-4 c =
+    let else1 = c .before .before .before .before .before .before in
+    let start = else1 .before .before .before in
+    let v = c .before .loop in
+    let a = start .args in
     sym (all-yes _ _ (ended (now (a .a)) (now (a .b)) (v .i) (omega arith) (v .inv .1))) ∙ v .inv .3
 
 pub same-spec : {M : Type 1} → statement M

@@ -18,8 +18,14 @@ cast-result : tie.Need-cast-result
 cast-result c = search needs
 
 returns : tie.Need-returns
-returns c = let a = c .before .before .args in
-    mod-eq-of-lt (omega (arith, c .number-at .ensures, number-at-lt 2 (a .at) (now (a .s)) (λ i. c .before .shared-slice-known .given i .fits))) ∙ c .number-at .ensures
+returns c =
+    let a = c .before .before .args in
+    mod-eq-of-lt
+    (omega (
+      arith,
+      c .number-at .ensures,
+      number-at-lt 2 (a .at) (now (a .s)) (λ i. c .before .shared-slice-known .given i .fits),
+    )) ∙ c .number-at .ensures
 
 pub u16-at-spec : {M : Type 1} → statement M
 u16-at-spec = tie.close (tie.spec number-at-requires cast-result returns)

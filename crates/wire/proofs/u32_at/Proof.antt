@@ -18,8 +18,16 @@ cast-result : tie.Need-cast-result
 cast-result c = search needs
 
 returns : tie.Need-returns
-returns c = let a = c .before .before .before .before .args in
-    mod-eq-of-lt (omega (arith, c .four .ensures, number-at-lt 4 (a .at) (now (a .s)) (λ i. c .before .before .before .shared-slice-known .given i .fits))) ∙ c .four .ensures
+returns c =
+    let after-shared-slice-known = c .before .before .before in
+    let start = after-shared-slice-known .before in
+    let a = start .args in
+    mod-eq-of-lt
+    (omega (
+      arith,
+      c .four .ensures,
+      number-at-lt 4 (a .at) (now (a .s)) (λ i. after-shared-slice-known .shared-slice-known .given i .fits),
+    )) ∙ c .four .ensures
 
 number-at-requires : tie.Need-number-at-requires
 number-at-requires c κs = search needs
@@ -28,8 +36,16 @@ cast-result-2 : tie.Need-cast-result-2
 cast-result-2 c = search needs
 
 returns-2 : tie.Need-returns-2
-returns-2 c = let a = c .before .before .before .before .args in
-    mod-eq-of-lt (omega (arith, c .number-at .ensures, number-at-lt 4 (a .at) (now (a .s)) (λ i. c .before .before .before .shared-slice-known .given i .fits))) ∙ c .number-at .ensures
+returns-2 c =
+    let after-shared-slice-known = c .before .before .before in
+    let start = after-shared-slice-known .before in
+    let a = start .args in
+    mod-eq-of-lt
+    (omega (
+      arith,
+      c .number-at .ensures,
+      number-at-lt 4 (a .at) (now (a .s)) (λ i. after-shared-slice-known .shared-slice-known .given i .fits),
+    )) ∙ c .number-at .ensures
 
 pub u32-at-spec : {M : Type 1} → statement M
 u32-at-spec =

@@ -12,22 +12,67 @@ is-inside-requires : tie.Need-is-inside-requires
 is-inside-requires c κs = search needs
 
 four-requires : tie.Need-four-requires
-four-requires c κs = omega (arith, inside (c .before .before .before .args .at) 8 (length (now (c .before .before .before .args .s))) (c .before .is-inside .ensures) (c .if1 .taken))
+four-requires c κs =
+    let start = c .before .before .before in
+    omega (
+      arith,
+      inside (start .args .at) 8 (length (now (start .args .s))) (c .before .is-inside .ensures) (c .if1 .taken),
+    )
 
 add-four : tie.Need-add-four
-add-four c = let a = c .before .before .before .before .args in record { fits = omega (arith, inside (a .at) 8 (length (now (a .s))) (c .before .before .is-inside .ensures) (c .before .if1 .taken)) }
+add-four c =
+    let start = c .before .before .before .before in
+    let a = start .args in
+    record {
+      fits = omega
+          (arith, inside (a .at) 8 (length (now (a .s))) (c .before .before .is-inside .ensures) (c .before .if1 .taken));
+    }
 
 four-requires-2 : tie.Need-four-requires-2
-four-requires-2 c κs = let a = c .before .before .before .before .args in omega (arith, inside (a .at) 8 (length (now (a .s))) (c .before .before .is-inside .ensures) (c .before .if1 .taken))
+four-requires-2 c κs =
+    let start = c .before .before .before .before in
+    let a = start .args in
+    omega (
+      arith,
+      inside (a .at) 8 (length (now (a .s))) (c .before .before .is-inside .ensures) (c .before .if1 .taken),
+    )
 
 mul-result : tie.Need-mul-result
-mul-result c = let a = c .before .before .before .before .before .args in record { fits = omega (arith, c .four2 .ensures, number-at-lt 4 (a .at + 4) (now (a .s)) (λ i. c .before .before .before .before .shared-slice-known .given i .fits)) }
+mul-result c =
+    let after-shared-slice-known = c .before .before .before .before in
+    let start = after-shared-slice-known .before in
+    let a = start .args in
+    record {
+      fits = omega (
+        arith,
+        c .four2 .ensures,
+        number-at-lt 4 (a .at + 4) (now (a .s)) (λ i. after-shared-slice-known .shared-slice-known .given i .fits),
+      );
+    }
 
 add-result : tie.Need-add-result
-add-result c = let a = c .before .before .before .before .before .args in record { fits = omega (arith, c .before .four .ensures, c .four2 .ensures, number-at-lt 4 (a .at) (now (a .s)) (λ i. c .before .before .before .before .shared-slice-known .given i .fits), number-at-lt 4 (a .at + 4) (now (a .s)) (λ i. c .before .before .before .before .shared-slice-known .given i .fits)) }
+add-result c =
+    let after-shared-slice-known = c .before .before .before .before in
+    let start = after-shared-slice-known .before in
+    let a = start .args in
+    record {
+      fits = omega (
+        arith,
+        c .before .four .ensures,
+        c .four2 .ensures,
+        number-at-lt 4 (a .at) (now (a .s)) (λ i. after-shared-slice-known .shared-slice-known .given i .fits),
+        number-at-lt 4 (a .at + 4) (now (a .s)) (λ i. after-shared-slice-known .shared-slice-known .given i .fits),
+      );
+    }
 
 returns : tie.Need-returns
-returns c = let a = c .before .before .before .before .before .args in rw (c .before .four .ensures, c .four2 .ensures) (number-halves (now (a .s)) (a .at) (inside (a .at) 8 (length (now (a .s))) (c .before .before .before .is-inside .ensures) (c .before .before .if1 .taken)))
+returns c =
+    let after-is-inside = c .before .before .before in
+    let start = after-is-inside .before .before in
+    let a = start .args in
+    rw (c .before .four .ensures, c .four2 .ensures)
+    (number-halves (now (a .s)) (a .at)
+    (inside (a .at) 8 (length (now (a .s))) (after-is-inside .is-inside .ensures) (c .before .before .if1 .taken)))
 
 number-at-requires : tie.Need-number-at-requires
 number-at-requires c κs = search needs

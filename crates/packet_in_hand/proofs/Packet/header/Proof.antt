@@ -26,4 +26,5 @@ pub header-spec : {M : Type 1} → stated.statement M
 unfolding code.routine
 header-spec 𝓤 H 𝓜 𝓖 𝓡 =
     hands-on aHeader Header′.mir def.name promise 𝓤 H 𝓜 𝓖 𝓡 code.env name def.routine
-    (λ κs r u is. LL.lawful Header.the-type Header′.the-laws 𝓤 H (𝓖 .A) (givenOf 𝓤 H 𝓜 𝓖) .typed r (u ∷ []) is .0) code.calls-frame·header (code.unfolded 𝓤 H 𝓜 𝓡) (thm.met 𝓤 H 𝓜 𝓖 𝓡)
+    (λ κs r u is. LL.lawful Header.the-type Header′.the-laws 𝓤 H (𝓖 .A) (givenOf 𝓤 H 𝓜 𝓖) .typed r (u ∷ []) is .0)
+    code.calls-frame·header (code.unfolded 𝓤 H 𝓜 𝓡) (thm.met 𝓤 H 𝓜 𝓖 𝓡)

@@ -26,4 +26,5 @@ pub kind-spec : {M : Type 1} → stated.statement M
 unfolding code.routine
 kind-spec 𝓤 H 𝓜 𝓖 𝓡 =
     hands-on aByte (tyInt w8) def.name promise 𝓤 H 𝓜 𝓖 𝓡 code.env name def.routine
-    (λ κs r u is. uint-lawful 𝓤 H (𝓖 .A) (givenOf 𝓤 H 𝓜 𝓖) w8 .typed r (u ∷ []) is .0) code.calls-packet-in-hand·counts·kind (code.unfolded 𝓤 H 𝓜 𝓡) (thm.met 𝓤 H 𝓜 𝓖 𝓡)
+    (λ κs r u is. uint-lawful 𝓤 H (𝓖 .A) (givenOf 𝓤 H 𝓜 𝓖) w8 .typed r (u ∷ []) is .0)
+    code.calls-packet-in-hand·counts·kind (code.unfolded 𝓤 H 𝓜 𝓡) (thm.met 𝓤 H 𝓜 𝓖 𝓡)

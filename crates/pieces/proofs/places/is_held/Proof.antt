@@ -38,9 +38,16 @@ div-result c = search needs
 returns-4 : tie.Need-returns-4
 unfolding holds
 returns-4 c =
-    let a = c .before .before .before .before .before .before .before .args in
+    let else2 = c .before .before .before in
+    let else1 = else2 .before .before in
+    let start = else1 .before .before in
+    let a = start .args in
     let wide : 0 < a .w = omega arith in
-    rw (le-leb _ _ (c .before .before .before .before .before .if1 .left), le-leb _ _ (c .before .before .before .if2 .left), quotient (a .p .count) (a .w) (a .size - a .p .at) _ wide refl)
+    rw (
+      le-leb _ _ (else1 .if1 .left),
+      le-leb _ _ (else2 .if2 .left),
+      quotient (a .p .count) (a .w) (a .size - a .p .at) _ wide refl,
+    )
 
 pub is-held-spec : {M : Type 1} → statement M
 is-held-spec = tie.close (tie.spec returns returns-2 returns-3 div-result returns-4)

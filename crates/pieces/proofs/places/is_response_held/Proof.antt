@@ -21,9 +21,15 @@ is-held-requires-2 c κs = search needs
 returns-2 : tie.Need-returns-2
 unfolding responseHolds
 returns-2 c =
+    let after-is-held = c .before .before .before in
     let second = c .before .is-held2 in
-    let first = c .before .before .before .is-held in
-    rw (← second .ensures, ← first .ensures, not-false (first .result) (c .before .before .if1 .left), not-true (second .result) (c .if2 .taken))
+    let first = after-is-held .is-held in
+    rw (
+      ← second .ensures,
+      ← first .ensures,
+      not-false (first .result) (c .before .before .if1 .left),
+      not-true (second .result) (c .if2 .taken),
+    )
 
 is-held-requires-3 : tie.Need-is-held-requires-3
 is-held-requires-3 c κs = search needs
@@ -31,9 +37,17 @@ is-held-requires-3 c κs = search needs
 returns-3 : tie.Need-returns-3
 unfolding responseHolds
 returns-3 c =
+    let else1 = c .before .before .before in
+    let after-is-held = else1 .before in
     let second = c .before .before .is-held2 in
-    let first = c .before .before .before .before .is-held in
-    rw (← c .is-held3 .ensures, ← second .ensures, ← first .ensures, not-false (first .result) (c .before .before .before .if1 .left), not-false (second .result) (c .before .if2 .left))
+    let first = after-is-held .is-held in
+    rw (
+      ← c .is-held3 .ensures,
+      ← second .ensures,
+      ← first .ensures,
+      not-false (first .result) (else1 .if1 .left),
+      not-false (second .result) (c .before .if2 .left),
+    )
 
 pub is-response-held-spec : {M : Type 1} → statement M
 is-response-held-spec =

@@ -31,7 +31,10 @@ part-requires-2 : tie.Need-part-requires-2
 part-requires-2 c κs = search needs
 
 mul-part-2 : tie.Need-mul-part-2
-mul-part-2 c = omega (arith, response-held _ _ (c .before .before .before .before .before .before .before .before .before .pre .1) .nonces .few)
+mul-part-2 c =
+    let after-part = c .before .before .before in
+    let start = after-part .before .before .before .before .before .before in
+    omega (arith, response-held _ _ (start .pre .1) .nonces .few)
 
 part-requires-3 : tie.Need-part-requires-3
 part-requires-3 c κs = search needs
@@ -47,9 +50,12 @@ part-write-nonce-response-end c = search needs
 
 write-nonce-response-requires : tie.Need-write-nonce-response-requires
 write-nonce-response-requires c κs =
-    let h = response-held _ _ (c .before .before .before .before .before .before .before .before .before .before .before .pre .1) in (
-      rw (c .before .before .before .before .before .part .ensures, length-take) (omega (arith, h .message .few)),
-      rw (c .before .before .before .part2 .ensures, length-take) (omega (arith, h .key-ids .few)),
+    let after-part2 = c .before .before .before in
+    let after-part = after-part2 .before .before in
+    let start = after-part .before .before .before .before .before .before in
+    let h = response-held _ _ (start .pre .1) in (
+      rw (after-part .part .ensures, length-take) (omega (arith, h .message .few)),
+      rw (after-part2 .part2 .ensures, length-take) (omega (arith, h .key-ids .few)),
       rw (c .before .part3 .ensures, length-take) (omega (arith, h .nonces .few)),
     )
 
@@ -59,16 +65,22 @@ same-length c = search needs
 returns : tie.Need-returns
 unfolding bytesAt
 returns c =
-    let known = c .before .before .before .before .before .before .before .before .before .before .before .before in
-    let a = known .before .before .args in
+    let after-part3 = c .before .before .before .before in
+    let after-part2 = after-part3 .before .before in
+    let after-part = after-part2 .before .before in
+    let known = after-part .before .before .before .before in
+    let start = known .before .before in
+    let a = start .args in
     let out = now (a .out) in
     let wrote = c .before .before .write-nonce-response in
-    let message = c .before .before .before .before .before .before .before .before .part .ensures in
-    let keys = c .before .before .before .before .before .before .part2 .ensures in
-    let nonces = c .before .before .before .before .part3 .ensures in
-    let code = encode-at (now (a .source)) (λ i. known .shared-slice-known .given i .fits) (a .p) (response-held _ _ (known .before .before .pre .1)) in (
+    let message = after-part .part .ensures in
+    let keys = after-part2 .part2 .ensures in
+    let nonces = after-part3 .part3 .ensures in
+    let code = encode-at (now (a .source)) (λ i. known .shared-slice-known .given i .fits) (a .p)
+    (response-held _ _ (start .pre .1)) in (
       rw (code, mul-one, wrote .ensures .0, part-all (a .at) out, length-drop (a .at) out, message, keys, nonces),
-      part-back (a .at) out (wrote .last .0) ∙ rw (code, mul-one, wrote .ensures .1, part-all (a .at) out, message, keys, nonces),
+      part-back (a .at) out (wrote .last .0)
+          ∙ rw (code, mul-one, wrote .ensures .1, part-all (a .at) out, message, keys, nonces),
     )
 
 pub write-nested-spec : {M : Type 1} → statement M

@@ -117,8 +117,10 @@ module _ {M : Type 1} (𝓤 : URA M) (H : Heap 𝓤) (A : Atoms 𝓤) (mem : Mem
   abbrev Callee : Contract 𝓤
   Callee = tripleOf 𝓤 H A callee.signature (callee.spec 𝓤 H A mem run)
 
-module _ {M : Type 1} (𝓤 : URA M) (H : Heap 𝓤) (A : Atoms 𝓤) (W : Given 𝓤 H A) (mem : Memory → SProp 𝓤) (run : Routine → Fun 𝓤) (κs : Lfts 3) (qs : Shares 3)
-    (s : Coordinator) (store out : RefT (List ℕ)) (clock : ℕ) (clock-fits : clock < 2 ^ 64) (verdict : Bool) (o : Opened) (refusal-fits : o .refusal < 2 ^ 8) (e : Entry) where
+module _ {M : Type 1} (𝓤 : URA M) (H : Heap 𝓤) (A : Atoms 𝓤) (W : Given 𝓤 H A) (mem : Memory → SProp 𝓤)
+    (run : Routine → Fun 𝓤) (κs : Lfts 3) (qs : Shares 3)
+    (s : Coordinator) (store out : RefT (List ℕ)) (clock : ℕ) (clock-fits : clock < 2 ^ 64) (verdict : Bool)
+    (o : Opened) (refusal-fits : o .refusal < 2 ^ 8) (e : Entry) where
   abbrev α : NamedLft
   α = namedLft 3 2 tt κs
 
@@ -230,7 +232,8 @@ module _ {M : Type 1} (𝓤 : URA M) (H : Heap 𝓤) (A : Atoms 𝓤) (W : Given
       owned ! u64 (Is u64) (uint-makes 𝓤 H A W w64) clock _ (refl, clock-fits) $ fjoin ! $
       move ! (3 ∷ 0 ∷ []) $ fjoin ! $ move ! (3 ∷ 0 ∷ []) $ fjoin ! $ move ! (1 ∷ 0 ∷ []) $ fjoin ! $ frame ! $ done !
 
-  module _ (C₀ : Calls 𝓤 H) (Λ : Loops 𝓤 H) (fm : FmC 𝓤 H (W .laws) C₀) (known : Triple 𝓤 (C₀ def.name) (Callee 𝓤 H A mem run)) (τ₀ τ₁ τ₇ : Ty) where
+  module _ (C₀ : Calls 𝓤 H) (Λ : Loops 𝓤 H) (fm : FmC 𝓤 H (W .laws) C₀)
+      (known : Triple 𝓤 (C₀ def.name) (Callee 𝓤 H A mem run)) (τ₀ τ₁ τ₇ : Ty) where
     walk : Asked → Holds (hasTy τ₁ (coordinatorVal s)) × WT (coordinatorVal s)
         → Is (MutSlice (named 0) (κs .0) u8) store (sv store ∷ []) → Is (MutSlice (named 1) (κs .1 .0) u8) out (sv out ∷ [])
         → Holds (hasTy (O′.mir (named 2)) (O′.lowered o)) × WT (O′.lowered o) → Holds (hasTy τ₇ (entryVal e))
@@ -241,7 +244,10 @@ module _ {M : Type 1} (𝓤 : URA M) (H : Heap 𝓤) (A : Atoms 𝓤) (W : Given
     walk r typed-s is-store is-out wt typed-e typed-d =
         qed W (raw (onEntry 𝓤 H A deliver.signature κs qs args vals) ∷ []) ∵ enter ! C₀ Λ (delivering τ₀ τ₁ τ₇)
         (coordinatorVal s ∷ sv store ∷ sv out ∷ vint w64 clock ∷ vbool verdict ∷ O′.lowered o ∷ entryVal e ∷ []) _ $
-        alloc1 ! (λ l₀. alloc1 ! (λ l₁. alloc1 ! (λ l₂. alloc1 ! (λ l₃. alloc1 ! (λ l₄. alloc1 ! (λ l₅. alloc1 ! (λ l₆. alloc1 ! (λ l₇. alloc1 ! (λ l₈. alloc1 ! (λ l₉. alloc1 ! (λ l₁₀. alloc1 ! (λ l₁₁. alloc1 ! (λ l₁₂. alloc1 ! (λ l₁₃. alloc1 ! (λ l₁₄. alloc0 ! $ params1 ! $
+        alloc1 ! (λ l₀. alloc1 ! (λ l₁. alloc1 ! (λ l₂. alloc1 ! (λ l₃.
+        alloc1 ! (λ l₄. alloc1 ! (λ l₅. alloc1 ! (λ l₆. alloc1 ! (λ l₇.
+        alloc1 ! (λ l₈. alloc1 ! (λ l₉. alloc1 ! (λ l₁₀. alloc1 ! (λ l₁₁.
+        alloc1 ! (λ l₁₂. alloc1 ! (λ l₁₃. alloc1 ! (λ l₁₄. alloc0 ! $ params1 ! $
         pass1 ! (init ! 26 refl typed-s) $ pass1 ! (init ! 24 refl
         (mut-slice-lawful 𝓤 H A W (named 0) (κs .0) u8 .typed store _ is-store .0)) $
         pass1 ! (init ! 22 refl (mut-slice-lawful 𝓤 H A W (named 1) (κs .1 .0) u8 .typed out _ is-out .0)) $

@@ -131,8 +131,10 @@ module _ {M : Type 1} (𝓤 : URA M) (H : Heap 𝓤) (A : Atoms 𝓤) (mem : Mem
   abbrev Deliver : Contract 𝓤
   Deliver = tripleOf 𝓤 H A deliver.signature (deliver.spec 𝓤 H A mem run)
 
-module _ {M : Type 1} (𝓤 : URA M) (H : Heap 𝓤) (A : Atoms 𝓤) (W : Given 𝓤 H A) (mem : Memory → SProp 𝓤) (run : Routine → Fun 𝓤) (κs : Lfts 3) (qs : Shares 3)
-    (s : Coordinator) (store out : RefT (List ℕ)) (clock : ℕ) (clock-fits : clock < 2 ^ 64) (verdict : Bool) (b : RefT (List ℕ)) (e : Entry) where
+module _ {M : Type 1} (𝓤 : URA M) (H : Heap 𝓤) (A : Atoms 𝓤) (W : Given 𝓤 H A) (mem : Memory → SProp 𝓤)
+    (run : Routine → Fun 𝓤) (κs : Lfts 3) (qs : Shares 3)
+    (s : Coordinator) (store out : RefT (List ℕ)) (clock : ℕ) (clock-fits : clock < 2 ^ 64) (verdict : Bool)
+    (b : RefT (List ℕ)) (e : Entry) where
   abbrev α : NamedLft
   α = namedLft 3 2 tt κs
 
@@ -289,7 +291,9 @@ module _ {M : Type 1} (𝓤 : URA M) (H : Heap 𝓤) (A : Atoms 𝓤) (W : Given
   abbrev αᵉ : NamedLft
   αᵉ = record { mir = erased; lft = κs .1 .1 .0 }
 
-  module _ (C₀ : Calls 𝓤 H) (Λ : Loops 𝓤 H) (fm : FmC 𝓤 H (W .laws) C₀) (known-open : Triple 𝓤 (C₀ open-def.name) (Open 𝓤 H A mem run)) (known-deliver : Triple 𝓤 (C₀ deliver-def.name) (Deliver 𝓤 H A mem run)) (τ₀ τ₁ τ₇ : Ty) where
+  module _ (C₀ : Calls 𝓤 H) (Λ : Loops 𝓤 H) (fm : FmC 𝓤 H (W .laws) C₀)
+      (known-open : Triple 𝓤 (C₀ open-def.name) (Open 𝓤 H A mem run))
+      (known-deliver : Triple 𝓤 (C₀ deliver-def.name) (Deliver 𝓤 H A mem run)) (τ₀ τ₁ τ₇ : Ty) where
     walk : PacketReady s (now store) (length (now out)) → Holds (hasTy τ₁ (coordinatorVal s)) × WT (coordinatorVal s) → Is (MutSlice (named 0) (κs .0) u8) store (sv store ∷ []) → Is (MutSlice (named 1) (κs .1 .0) u8) out (sv out ∷ [])
         → Is (ShrSlice (named 2) (κs .1 .1 .0) u8) b (sv b ∷ []) → Holds (hasTy τ₇ (entryVal e)) × WT (entryVal e)
         → ((d : Done) (v : Val) → Is Dn.the-row d (v ∷ []) → Holds (hasTy τ₀ v) × WT v)
@@ -299,7 +303,9 @@ module _ {M : Type 1} (𝓤 : URA M) (H : Heap 𝓤) (A : Atoms 𝓤) (W : Given
     walk r typed-s is-store is-out is-b typed-e typed-d =
         qed W (raw (onEntry 𝓤 H A read.signature κs qs args vals) ∷ []) ∵ enter ! C₀ Λ (reading τ₀ τ₁ τ₇)
         (coordinatorVal s ∷ sv store ∷ sv out ∷ vint w64 clock ∷ vbool verdict ∷ sv b ∷ entryVal e ∷ []) _ $
-        alloc1 ! (λ m₀. alloc1 ! (λ m₁. alloc1 ! (λ m₂. alloc1 ! (λ m₃. alloc1 ! (λ m₄. alloc1 ! (λ m₅. alloc1 ! (λ m₆. alloc1 ! (λ m₇. alloc1 ! (λ m₈. alloc1 ! (λ m₉. alloc1 ! (λ m₁₀. alloc1 ! (λ m₁₁. alloc1 ! (λ m₁₂. alloc1 ! (λ m₁₃. alloc0 ! $ params1 ! $
+        alloc1 ! (λ m₀. alloc1 ! (λ m₁. alloc1 ! (λ m₂. alloc1 ! (λ m₃.
+        alloc1 ! (λ m₄. alloc1 ! (λ m₅. alloc1 ! (λ m₆. alloc1 ! (λ m₇.
+        alloc1 ! (λ m₈. alloc1 ! (λ m₉. alloc1 ! (λ m₁₀. alloc1 ! (λ m₁₁. alloc1 ! (λ m₁₂. alloc1 ! (λ m₁₃. alloc0 ! $ params1 ! $
         pass1 ! (init ! 24 refl typed-s) $ pass1 ! (init ! 22 refl
         (mut-slice-lawful 𝓤 H A W (named 0) (κs .0) u8 .typed store _ is-store .0)) $
         pass1 ! (init ! 20 refl (mut-slice-lawful 𝓤 H A W (named 1) (κs .1 .0) u8 .typed out _ is-out .0)) $

@@ -28,13 +28,19 @@ same-length : tie.Need-same-length
 same-length c = search needs
 
 returns : tie.Need-returns
-returns c = request-did _ _ _ _ _ _ (c .before .before .before .before .before .before .before .before .requested .ensures) _ _ (c .sending .ensures) (c .before .before .before .before .before .before .write-share-request .ensures) (c .before .before .written .given .1)
+returns c =
+    let after-write-share-request = c .before .before .before .before .before .before in
+    let after-requested = after-write-share-request .before .before in
+    request-did _ _ _ _ _ _ (after-requested .requested .ensures) _ _ (c .sending .ensures)
+    (after-write-share-request .write-share-request .ensures) (c .before .before .written .given .1)
 
 same-length-2 : tie.Need-same-length-2
 same-length-2 c = search needs
 
 returns-2 : tie.Need-returns-2
-returns-2 c = absurd (never-refused (c .before .before .before .before .before .write-share-request .ensures) (c .before .enum-told .given .1))
+returns-2 c =
+    let after-write-share-request = c .before .before .before .before .before in
+    absurd (never-refused (after-write-share-request .write-share-request .ensures) (c .before .enum-told .given .1))
 
 pub request-sig-shares-spec : {M : Type 1} → statement M
 request-sig-shares-spec =

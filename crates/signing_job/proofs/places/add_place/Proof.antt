@@ -14,9 +14,14 @@ use Rattle.signing_job.proofs.Placing.{place-none, place-some}
 
 returns : tie.Need-returns
 returns c =
-    let a = c .before .args in
-    let ten : length (a .t3 .slots) ≡ 10 = slots-10 (a .t3) _ (c .before .good .1 .1 .0) in
-    (place-none (a .ps) (a .r) (a .t3) (a .t4) (a .e) (ap (λ (s : ResponseSlot). s .held) (List·getD-eq-default (a .t3 .slots) noSlot {n = a .e .slot} (omega arith))), omega arith)
+    let start = c .before in
+    let a = start .args in
+    let ten : length (a .t3 .slots) ≡ 10 = slots-10 (a .t3) _ (start .good .1 .1 .0) in (
+      place-none (a .ps) (a .r) (a .t3) (a .t4) (a .e)
+          (ap (λ (s : ResponseSlot). s .held)
+          (List·getD-eq-default (a .t3 .slots) noSlot {n = a .e .slot} (omega arith))),
+      omega arith,
+    )
 
 mul-response : tie.Need-mul-response
 mul-response c = omega arith

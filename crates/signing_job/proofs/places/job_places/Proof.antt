@@ -57,9 +57,13 @@ loop-again c =
 returns : tie.Need-returns Inv-loop μ-loop
 unfolding ordered
 returns c =
+    let start = c .before .before .before in
     let v = c .before .loop in
-    let a = c .before .before .before .args in
-    (walk-done (jobPlaceIn (a .r) (a .row) (a .shares)) (a .o .slots) (a .o .count) (v .j) (signersIn (v .ps)) (c .loop-test .left) (v .inv .5), omega arith)
+    let a = start .args in (
+      walk-done (jobPlaceIn (a .r) (a .row) (a .shares)) (a .o .slots) (a .o .count) (v .j) (signersIn (v .ps))
+          (c .loop-test .left) (v .inv .5),
+      omega arith,
+    )
 
 pub job-places-spec : {M : Type 1} → statement M
 job-places-spec =

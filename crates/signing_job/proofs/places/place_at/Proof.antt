@@ -36,7 +36,8 @@ returns : tie.Need-returns
 returns c =
     let a = c .before .before .args in
     let kept = c .before .held-shares in
-    place-built (a .r) (a .i) (a .response) (a .shares) (kept .result) _ _ _ _ (kept .ensures) (omega arith) (omega arith) (omega arith) (omega arith)
+    place-built (a .r) (a .i) (a .response) (a .shares) (kept .result) _ _ _ _ (kept .ensures) (omega arith)
+    (omega arith) (omega arith) (omega arith)
 
 pub place-at-spec : {M : Type 1} → statement M
 place-at-spec =

@@ -18,7 +18,8 @@ use Rattle.signing_job.specs.SigningJob.{sharesAreHeld}
 abbrev Inv-loop : tie.InvT-loop
 Inv-loop row shares count slots j₀ j =
     (length slots ≡ 10) × (count ≤ 10) × (j ≤ count)
-    × (every (sharesAreHeld (row .slots) (shares .slots)) (drop j (take count slots)) ≡ every (sharesAreHeld (row .slots) (shares .slots)) (take count slots))
+    × (every (sharesAreHeld (row .slots) (shares .slots)) (drop j (take count slots))
+    ≡ every (sharesAreHeld (row .slots) (shares .slots)) (take count slots))
 
 abbrev μ-loop : tie.MeasureT-loop
 μ-loop row shares count slots j₀ j = count - j
@@ -37,14 +38,17 @@ shares-are-held-requires c κs = tt
 
 -- the tests from j on, where the one at j is b
 tested :
-    (c : tie.After-shares-are-held Inv-loop μ-loop) (b : Bool) → c .shares-are-held .result ≡ b
-    → let a = c .before .before .before .before .before .args in let es = take (a .o .count) (a .o .slots) in let f = sharesAreHeld (a .row .slots) (a .shares .slots) in
-    b && every f (drop (c .before .before .before .loop .j + 1) es) ≡ every f es
+    (c : tie.After-shares-are-held Inv-loop μ-loop) (b : Bool) → c .shares-are-held .result ≡ b → let a
+    = c .before .before .before .before .before .args in let es = take (a .o .count) (a .o .slots) in let f
+    = sharesAreHeld (a .row .slots) (a .shares .slots) in b && every f
+    (drop (c .before .before .before .loop .j + 1) es) ≡ every f es
 tested c b e =
-    let a = c .before .before .before .before .before .args in
-    let v = c .before .before .before .loop in
-    every-turn (sharesAreHeld (a .row .slots) (a .shares .slots)) (a .o .slots) (a .o .count) (v .j) (signerSlot 0 0) b (c .before .before .loop-test .taken) (omega arith)
-    (sym e ∙ c .shares-are-held .ensures) (v .inv .3)
+    let at-loop = c .before .before .before in
+    let start = at-loop .before .before in
+    let a = start .args in
+    let v = at-loop .loop in
+    every-turn (sharesAreHeld (a .row .slots) (a .shares .slots)) (a .o .slots) (a .o .count) (v .j) (signerSlot 0 0)
+    b (c .before .before .loop-test .taken) (omega arith) (sym e ∙ c .shares-are-held .ensures) (v .inv .3)
 
 returns : tie.Need-returns Inv-loop μ-loop
 unfolding ordered
@@ -57,7 +61,9 @@ loop-less : tie.Need-loop-less Inv-loop μ-loop
 loop-less c = omega arith
 
 loop-again : tie.Need-loop-again Inv-loop μ-loop
-loop-again c = (c .before .before .before .before .loop .inv .0, omega arith, omega arith, tested (c .before) true (not-false _ (c .if1 .left)))
+loop-again c =
+    let at-loop = c .before .before .before .before in
+    (at-loop .loop .inv .0, omega arith, omega arith, tested (c .before) true (not-false _ (c .if1 .left)))
 
 returns-2 : tie.Need-returns-2 Inv-loop μ-loop
 unfolding ordered

@@ -22,7 +22,9 @@ same-length c = search needs
 returns-2 : tie.Need-returns-2
 unfolding joined
 returns-2 c =
-    wrote _ _ _ (c .before .before .before .before .if1 .left) refl 32 _ (length-packet _ []) (omega arith) (c .before .before .put-header .ensures ∙ put-packet _ _ [] 32 refl)
+    let else1 = c .before .before .before .before in
+    wrote _ _ _ (else1 .if1 .left) refl 32 _ (length-packet _ []) (omega arith)
+    (c .before .before .put-header .ensures ∙ put-packet _ _ [] 32 refl)
 
 pub write-dkg-spec : {M : Type 1} → statement M
 write-dkg-spec = tie.close (tie.spec returns put-header-requires same-length returns-2)

@@ -22,7 +22,8 @@ use Rattle.pieces.proofs.Given.{signers-10, drop-live}
 -- the id at i, then those after it
 next :
     (out : List ℕ) (p q : ℕ) (ids : List SignerId) (n i : ℕ) (d : SignerId) → p + 4 ≡ q → i < n → n ≤ length ids
-    → put (put out p (le 4 (getD ids i d .0))) q (idBytes (drop (i + 1) (take n (map signerNumber ids)))) ≡ put out p (idBytes (drop i (take n (map signerNumber ids))))
+    → put (put out p (le 4 (getD ids i d .0))) q (idBytes (drop (i + 1) (take n (map signerNumber ids))))
+    ≡ put out p (idBytes (drop i (take n (map signerNumber ids))))
 unfolding idBytes joined
 next out p q ids n i d e h l =
     rw (drop-live (map signerNumber ids) n i (signerNumber d) h (rw length-map l), List·getD-map signerNumber ids i d, ← e)
@@ -31,7 +32,8 @@ next out p q ids n i d e h l =
 abbrev Inv-loop : tie.InvT-loop
 Inv-loop out₀ at ids count start i₀ out i =
     (i ≤ count)
-    × (put out (start + 4 * i) (idBytes (drop i (take count (map signerNumber ids)))) ≡ put out₀ start (idBytes (take count (map signerNumber ids))))
+    × (put out (start + 4 * i) (idBytes (drop i (take count (map signerNumber ids))))
+    ≡ put out₀ start (idBytes (take count (map signerNumber ids))))
 
 abbrev μ-loop : tie.MeasureT-loop
 μ-loop out₀ at ids count start i₀ out i = count - i
@@ -65,23 +67,32 @@ loop-less c = omega arith
 
 loop-again : tie.Need-loop-again Inv-loop μ-loop
 loop-again c =
-    let a = c .before .before .before .before .before .before .before .before .before .before .args in
-    let l = c .before .before .before .before .before .before .before .loop in
-    let ten : length (a .list .ids) ≡ 10 = signers-10 (a .list) _ (c .before .before .before .before .before .before .before .before .before .before .good .1 .1 .0) in (
+    let in-loop = c .before .before .before .before .before .before in
+    let at-loop = in-loop .before in
+    let start = at-loop .before .before .before in
+    let a = start .args in
+    let l = at-loop .loop in
+    let ten : length (a .list .ids) ≡ 10 = signers-10 (a .list) _ (start .good .1 .1 .0) in (
       omega arith,
       rw (c .before .before .put-number .ensures)
-          (next (l .out) (a .at + 4 * l .i) _ (a .list .ids) (a .list .count) (l .i) _ (omega arith) (c .before .before .before .before .before .before .loop-test .taken) (omega arith) ∙ l .inv .1),
+          (next (l .out) (a .at + 4 * l .i) _ (a .list .ids) (a .list .count) (l .i) _ (omega arith)
+          (in-loop .loop-test .taken) (omega arith) ∙ l .inv .1),
     )
 
 -- nothing is left to write after the loop
 written : tie.Need-returns Inv-loop μ-loop
 unfolding signersOf idBytes joined put
 written c =
-    let list = c .before .before .before .before .args .list in
+    let start = c .before .before .before .before in
+    let list = start .args .list in
     let l = c .before .loop in
-    let ten : length (list .ids) ≡ 10 = signers-10 list _ (c .before .before .before .before .good .1 .1 .0) in
-    let size : length (signersOf list) ≡ list .count = length-take-le (list .count) (map signerNumber (list .ids)) (rw length-map (omega arith)) in
-    (omega (arith, length-idBytes (signersOf list)), rw (drop-of-length-le (take (list .count) (map signerNumber (list .ids))) {i = l .i} (omega arith)) at (l .inv .1))
+    let ten : length (list .ids) ≡ 10 = signers-10 list _ (start .good .1 .1 .0) in
+    let size : length (signersOf list) ≡ list .count =
+    length-take-le (list .count) (map signerNumber (list .ids)) (rw length-map (omega arith)) in (
+      omega (arith, length-idBytes (signersOf list)),
+      rw (drop-of-length-le (take (list .count) (map signerNumber (list .ids))) {i = l .i} (omega arith)) at
+          (l .inv .1),
+    )
 
 same-length : tie.Need-same-length Inv-loop μ-loop
 same-length c = ap length (written c .1) ∙ length-put _ _ _

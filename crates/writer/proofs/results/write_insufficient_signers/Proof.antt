@@ -50,13 +50,18 @@ same-length c = search needs
 returns-3 : tie.Need-returns-3
 unfolding writeInsufficientSigners encodeInsufficientSigners total
 returns-3 c =
-    let checked = c .before .before .before .before .before .before .before .before .before .before .before .before .before in
-    let m = checked .before .before .before .before .args .malicious in
-    let list = c .before .before .put-signers .ensures in
     let pair = c .before .before .before .before .before .before in
+    let after-put-result-header = pair .before .before .before .before in
+    let checked = after-put-result-header .before .before .before in
+    let else1 = checked .before .before in
+    let start = else1 .before .before in
+    let m = start .args .malicious in
+    let list = c .before .before .put-signers .ensures in
     let size : 4 * (m .count % 65536) ≡ length (idBytes (signersOf m)) = omega (arith, list .0) in
-    wrote _ _ _ (checked .before .before .if1 .left) (le-leb _ _ (checked .if2 .left)) _ _ (length-parts _ (_ ∷ []) ∙ omega arith) (omega arith)
-    (rw (list .1, pair .put-pair .ensures, pair .before .before .before .before .put-result-header .ensures, size) (put-packet _ _ (_ ∷ []) 40 refl))
+    wrote _ _ _ (else1 .if1 .left) (le-leb _ _ (checked .if2 .left)) _ _ (length-parts _ (_ ∷ []) ∙ omega arith)
+    (omega arith)
+    (rw (list .1, pair .put-pair .ensures, after-put-result-header .put-result-header .ensures, size)
+    (put-packet _ _ (_ ∷ []) 40 refl))
 
 pub write-insufficient-signers-spec : {M : Type 1} → statement M
 write-insufficient-signers-spec =

@@ -26,7 +26,9 @@ returns-2 c = refused-9 _ _ _ (c .before .before .if1 .left) (rw (lt-leb _ _ (c 
 
 returns-3 : tie.Need-returns-3
 unfolding writeNonceTimeout
-returns-3 c = refused-9 _ _ _ (c .before .before .before .before .if1 .left) (rw (le-leb _ _ (c .before .before .if2 .left), lt-leb _ _ (c .if3 .taken)))
+returns-3 c =
+    let else1 = c .before .before .before .before in
+    refused-9 _ _ _ (else1 .if1 .left) (rw (le-leb _ _ (c .before .before .if2 .left), lt-leb _ _ (c .if3 .taken)))
 
 cast-waiters-len : tie.Need-cast-waiters-len
 cast-waiters-len c = search needs
@@ -70,18 +72,31 @@ same-length c = search needs
 returns-4 : tie.Need-returns-4
 unfolding writeNonceTimeout encodeNonceTimeout total
 returns-4 c =
-    let malicious = c .before .before .put-signers2 .ensures in
-    let waiters = c .before .before .before .before .before .before .put-signers .ensures in
-    let pair2 = c .before .before .before .before .before .before .before .before .before .before in
+    let after-put-signers = c .before .before .before .before .before .before in
+    let pair2 = after-put-signers .before .before .before .before in
     let pair = pair2 .before .before .before .before in
-    let checked = pair .before .before .before .before .before .before .before .before in
-    let a = checked .before .before .before .before .before .before .args in
+    let after-put-result-header = pair .before .before .before .before in
+    let checked = after-put-result-header .before .before .before .before in
+    let else2 = checked .before .before in
+    let else1 = else2 .before .before in
+    let start = else1 .before .before in
+    let malicious = c .before .before .put-signers2 .ensures in
+    let waiters = after-put-signers .put-signers .ensures in
+    let a = start .args in
     let w : 4 * (a .waiters .count % 65536) ≡ length (idBytes (signersOf (a .waiters))) = omega (arith, waiters .0) in
-    let m : 4 * (a .malicious .count % 65536) ≡ length (idBytes (signersOf (a .malicious))) = omega (arith, malicious .0) in
-    wrote _ _ _ (checked .before .before .before .before .if1 .left) (and-both _ _ (le-leb _ _ (checked .before .before .if2 .left)) (le-leb _ _ (checked .if3 .left))) _ _
-    (length-parts _ (_ ∷ (_ ∷ [])) ∙ omega arith) (omega arith)
-    (rw (malicious .1, waiters .1, pair2 .put-pair2 .ensures, pair .put-pair .ensures, pair .before .before .before .before .put-result-header .ensures, w, m)
-    (put-packet _ _ (_ ∷ (_ ∷ [])) 48 refl))
+    let m : 4 * (a .malicious .count % 65536) ≡ length (idBytes (signersOf (a .malicious))) =
+    omega (arith, malicious .0) in
+    wrote _ _ _ (else1 .if1 .left) (and-both _ _ (le-leb _ _ (else2 .if2 .left)) (le-leb _ _ (checked .if3 .left)))
+    _ _ (length-parts _ (_ ∷ (_ ∷ [])) ∙ omega arith) (omega arith)
+    (rw (
+      malicious .1,
+      waiters .1,
+      pair2 .put-pair2 .ensures,
+      pair .put-pair .ensures,
+      after-put-result-header .put-result-header .ensures,
+      w,
+      m,
+    ) (put-packet _ _ (_ ∷ (_ ∷ [])) 48 refl))
 
 pub write-nonce-timeout-spec : {M : Type 1} → statement M
 write-nonce-timeout-spec =
