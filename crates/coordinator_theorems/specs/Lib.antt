@@ -3,3 +3,4 @@ pub mod Host
 pub mod Demand3
 pub mod Refusals
 pub mod WorkedRound
+pub mod Contracts

@@ -14,7 +14,7 @@ use Rattle.library_commission.specs.Commissioned.{commissionedTurn}
 use Rattle.interface.specs.declared.answers.RcAnswer.{RcAnswer}
 use Rattle.interface.specs.declared.configs.RcConfig.{RcConfig}
 use Rattle.coordinator_theorems.specs.Host.{turnFor}
-use Rattle.coordinator_theorems.proofs.Contracts.{at, promising}
+use Rattle.coordinator_theorems.specs.Contracts.{at, promising}
 use Rattle.roundcabinet.proofs.rc_commission as rc_commission
 use Rattle.roundcabinet.proofs.rc_set_coordinator_key as rc_set_coordinator_key
 use Rattle.roundcabinet.proofs.rc_set_group_key as rc_set_group_key

@@ -8,3 +8,4 @@ pub mod Demands
 pub mod Changes
 pub mod Contracts
 pub mod Makes
+pub mod Zeros

@@ -1,5 +1,5 @@
 -- Every call that a host can make of the library is one that the theorems speak of: whatever it lends and says, there is what `Made` describes, as
--- long as the struct after it is a value of its type (`Saves`, which all-saves shows of every such value).
+-- long as the struct after it and the answer's values are of their types (`Can`; all-saves shows the first of every value of the struct's type).
 -- Assumes nothing.
 use Prim.Native.Nat.{ℕ, _+_, _≤_}
 use mathlib.Core.Path.{_≡_, refl, sym, ap, _∙_}
@@ -15,14 +15,14 @@ use Rattle.state.specs.Turns as T
 use Rattle.state.specs.Turns.{Turn, said, answerOf}
 use Rattle.state_bytes.specs.Places.{stateLength}
 use Rattle.state_bytes.specs.Saved.{saved}
-use Rattle.state_bytes.specs.Fits.{Saves}
 use Rattle.state_bytes.specs.Loaded.{loaded}
 use Rattle.state_bytes.proofs.Loads.{load-put}
 use Rattle.interface.specs.declared.answers.RcAnswer.{RcAnswer}
 use Rattle.interface.specs.Answers.{flat, told}
 use Rattle.interface.proofs.Call.{told-flat}
-use Rattle.coordinator_theorems.specs.Host.{GivenArrays, viewed}
-use Rattle.library_theorems.specs.Library.{Buffers, counted, LibraryCall, requestOf, libraryTurn, saves, Made, Ran}
+use Rattle.coordinator_theorems.specs.Host.{viewed}
+use Rattle.library_theorems.specs.Library.{Buffers, counted, LibraryCall, saves, Made, Ran}
+use Rattle.library_theorems.specs.Can.{turnBy, left, Can, CanAll}
 
 -- an answer with at most two values is told by the struct and the bytes that it is made of
 class-back : (k : A.Class) → T.classOf (T.classIn k) ≡ k
@@ -42,18 +42,6 @@ answer-told : (a : A.Answer) (rest : List ℕ) → length (a .values) ≤ 2 → 
 unfolding said answerOf
 answer-told a rest l = told-flat (answerOf a) (a .bytes ++ rest) ∙ rw (class-back (a .class), values-back (a .values) l, take-append-seam (a .bytes) rest)
 
--- the turn of a call on what a host holds
-abbrev pub turnBy : LibraryCall → Buffers → Turn
-turnBy k b = libraryTurn (k .request) (k .clock) (k .verdict) (k .room) (take (k .state) (b .state)) (take (k .lent) (b .store))
-
--- what a host has to see to: it lends no more than it has, its arrays have their types' lengths; and the struct after is a value of its type
-pub record Can (k : LibraryCall) (b : Buffers) : Type 0 where
-  pub state : k .state ≤ length (b .state)
-  pub store : k .lent ≤ length (b .store)
-  pub arrays : GivenArrays (requestOf (k .request))
-  pub values : length (turnBy k b .answer .values) ≤ 2
-  pub saves : Saves (turnBy k b .after)
-
 module _ (k : LibraryCall) (b : Buffers) where
   abbrev lent : List ℕ
   lent = take (k .state) (b .state)
@@ -64,10 +52,7 @@ module _ (k : LibraryCall) (b : Buffers) where
   abbrev kept : List ℕ
   kept = cond (saves (k .request) lent) (put lent 0 (saved (turn .after))) lent
 
-  abbrev pub left : Buffers
-  left = record { state = kept ++ drop (k .state) (b .state); store = turn .store ++ drop (k .lent) (b .store) }
-
-  pub library-makes : Can k b → Made k b (turn .answer) left
+  pub library-makes : Can k b → Made k b (turn .answer) (left k b)
   library-makes c =
       let out : List ℕ = replicate (k .room) 0 in
       let long : length out ≡ k .room = length-replicate {A = ℕ} (k .room) 0 in
@@ -96,10 +81,6 @@ module _ (k : LibraryCall) (b : Buffers) where
       }
 
 -- lists: each call on what the last left
-abbrev pub CanAll : List LibraryCall → Buffers → Type 0
-CanAll [] b = Unit {0}
-CanAll (k ∷ ks) b = Can k b × CanAll ks (left k b)
-
 pub library-runs : (ks : List LibraryCall) (b : Buffers) → CanAll ks b → (seen : List Seen) × (e : Buffers) × Ran ks b seen e
 unfolding Ran
 library-runs [] b c = ([], b, (refl, refl))

@@ -1,2 +1,3 @@
 -- The library's calls, as a host makes them.
 pub mod Library
+pub mod Can

@@ -1,0 +1,13 @@
+-- The struct after 1 to 3 is the state of zeros: the one that bytes which no save left count as.
+-- Assumes nothing.
+use mathlib.Core.Path.{_≡_, refl}
+use Rattle.wire.specs.Bytes.{number}
+use Rattle.layout.specs.Types.{typeOf}
+use Rattle.validity.specs.Keys.{keyPlaces}
+use Rattle.configuration.specs.Made.{blankConfig}
+use Rattle.commission.specs.Commission.{noRecords, noMarks, noMessage, atIdle, uncommissionedStruct}
+use Rattle.state_bytes.specs.Loaded.{unsaved, stateAt, eachAt, readingAt, timeoutsAt, signerAt, configAt, idsAt, stateFor, positionAt, messageAt, slotAt, rowAt, recordsAt, sharesAt, marksAt, clocksAt, keysAt}
+
+pub uncommissioned-zeros : uncommissionedStruct ≡ unsaved
+unfolding uncommissionedStruct blankConfig noRecords noMarks noMessage atIdle stateAt eachAt readingAt timeoutsAt signerAt configAt idsAt stateFor positionAt messageAt slotAt rowAt recordsAt sharesAt marksAt clocksAt keysAt number typeOf keyPlaces
+uncommissioned-zeros = refl
