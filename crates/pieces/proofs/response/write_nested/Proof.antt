@@ -39,17 +39,17 @@ mul-part-2 c =
 part-requires-3 : tie.Need-part-requires-3
 part-requires-3 c κs = search needs
 
-sub-write-nonce-response : tie.Need-sub-write-nonce-response
-sub-write-nonce-response c = search needs
+sub-write-response : tie.Need-sub-write-response
+sub-write-response c = search needs
 
-part-write-nonce-response-start : tie.Need-part-write-nonce-response-start
-part-write-nonce-response-start c = search needs
+part-write-response-start : tie.Need-part-write-response-start
+part-write-response-start c = search needs
 
-part-write-nonce-response-end : tie.Need-part-write-nonce-response-end
-part-write-nonce-response-end c = search needs
+part-write-response-end : tie.Need-part-write-response-end
+part-write-response-end c = search needs
 
-write-nonce-response-requires : tie.Need-write-nonce-response-requires
-write-nonce-response-requires c κs =
+write-response-requires : tie.Need-write-response-requires
+write-response-requires c κs =
     let after-part2 = c .before .before .before in
     let after-part = after-part2 .before .before in
     let start = after-part .before .before .before .before .before .before in
@@ -72,7 +72,7 @@ returns c =
     let start = known .before .before in
     let a = start .args in
     let out = now (a .out) in
-    let wrote = c .before .before .write-nonce-response in
+    let wrote = c .before .before .write-response in
     let message = after-part .part .ensures in
     let keys = after-part2 .part2 .ensures in
     let nonces = after-part3 .part3 .ensures in
@@ -92,9 +92,9 @@ write-nested-spec =
     part-requires-2
     mul-part-2
     part-requires-3
-    sub-write-nonce-response
-    part-write-nonce-response-start
-    part-write-nonce-response-end
-    write-nonce-response-requires
+    sub-write-response
+    part-write-response-start
+    part-write-response-end
+    write-response-requires
     same-length
     returns)
