@@ -1,5 +1,6 @@
--- The contracts of the library's functions are what the theorems about its calls speak of: each is equated, whole, with what `Made` says of its
--- call. A contract that asks something of its caller, or promises something else, is refused here.
+-- The contracts of the library's functions are what the theorems about its calls speak of: each is equated, whole, with what `Made` says
+-- of its call; and those of a signer's writers, with the definitions that Responses.antt speaks of. A contract that asks something of
+-- its caller, or promises something else, is refused here.
 -- Assumes nothing.
 use Prim.Native.Nat.{ℕ}
 use mathlib.Core.Path.{_≡_, refl}
@@ -7,10 +8,17 @@ use mathlib.Core.List.{List, []}
 use contract.Lifetimes.{Lfts}
 use borrow.Fn.World.{World}
 use denote.Ref.{RefT, now}
+use lib.ListN.{length}
 use Rattle.calls.specs.declared.held_keys.HeldKey.the-variants as Which
 use Rattle.packet_entry.specs.declared.Entry.the-variants.{Process, ProcessMessage}
 use Rattle.library_start.specs.Given.{startedTurn, movedTurn}
 use Rattle.library_commission.specs.Commissioned.{commissionedTurn}
+use Rattle.framing.specs.Writing.{Wrote}
+use Rattle.responses.specs.declared.lists.ResponseHead.{ResponseHead}
+use Rattle.responses.specs.Responses.{writeNonceResponse, writeSignatureShareResponse}
+use Rattle.responses.proofs.nonces.write_nonce_response as write_nonce_response
+use Rattle.responses.proofs.shares.write_signature_share_response as write_signature_share_response
+use Rattle.library_writers.specs.declared.given.RcResponseHead.{RcResponseHead}
 use Rattle.interface.specs.declared.answers.RcAnswer.{RcAnswer}
 use Rattle.interface.specs.declared.configs.RcConfig.{RcConfig}
 use Rattle.coordinator_theorems.specs.Host.{turnFor}
@@ -26,8 +34,11 @@ use Rattle.roundcabinet.proofs.rc_process_timeout as rc_process_timeout
 use Rattle.roundcabinet.proofs.rc_aggregated as rc_aggregated
 use Rattle.roundcabinet.proofs.rc_reset as rc_reset
 use Rattle.roundcabinet.proofs.rc_can_move_to as rc_can_move_to
+use Rattle.roundcabinet.proofs.rc_write_nonce_response as rc_write_nonce_response
+use Rattle.roundcabinet.proofs.rc_write_signature_share_response as rc_write_signature_share_response
 use Rattle.library_theorems.specs.Library.{LibraryRequest, commission, setKey, takeResults, startSigningRound, receive, processTimeout, aggregated, reset, canMoveTo}
 use Rattle.library_theorems.specs.Library.{requestOf, isSaid, libraryTurn, saves, Gave}
+use Rattle.library_theorems.specs.Responses.{WroteNonceResponse, WroteShareResponse}
 
 module _ (w : World) (state store : RefT (List ℕ)) where
   -- calls that take no answer buffer: the contract looks at no clock and at no verdict
@@ -118,3 +129,35 @@ module _ (w : World) (state store : RefT (List ℕ)) where
         ≡ promising w rc_process_timeout.ended κs (λ r e. Writes processTimeout verdict r (now (e .0)) (now store) (now (e .1 .1 .0)))
     unfolding libraryTurn isSaid saves requestOf turnFor
     process-timeout-is κs verdict = refl
+
+-- a signer's writers, for C and for a host in Rattle: they are lent a buffer, and no state
+module _ (w : World) (out message key-ids nonces : RefT (List ℕ)) where
+  pub rc-write-nonce-response-is :
+      (κs : Lfts 4) (h : RcResponseHead)
+      → at w rc_write_nonce_response.clauses κs (out, (h, (message, (key-ids, (nonces, tt)))))
+      ≡ promising w rc_write_nonce_response.ended κs
+      (λ r e. WroteNonceResponse (now out) h (now message) (now key-ids) (now nonces) r (now (e .0)))
+  rc-write-nonce-response-is κs h = refl
+
+  pub write-nonce-response-is :
+      (κs : Lfts 4) (h : ResponseHead)
+      → at w write_nonce_response.clauses κs (out, (h, (message, (key-ids, (nonces, tt)))))
+      ≡ promising w write_nonce_response.ended κs
+      (λ r e. Wrote (writeNonceResponse (length (now out)) h (now message) (now key-ids) (now nonces)) (now out) r (now (e .0)))
+  write-nonce-response-is κs h = refl
+
+module _ (w : World) (out ids z-i counts key-ids : RefT (List ℕ)) where
+  pub rc-write-signature-share-response-is :
+      (κs : Lfts 5) (h : RcResponseHead)
+      → at w rc_write_signature_share_response.clauses κs (out, (h, (ids, (z-i, (counts, (key-ids, tt))))))
+      ≡ promising w rc_write_signature_share_response.ended κs
+      (λ r e. WroteShareResponse (now out) h (now ids) (now z-i) (now counts) (now key-ids) r (now (e .0)))
+  rc-write-signature-share-response-is κs h = refl
+
+  pub write-signature-share-response-is :
+      (κs : Lfts 5) (h : ResponseHead)
+      → at w write_signature_share_response.clauses κs (out, (h, (ids, (z-i, (counts, (key-ids, tt))))))
+      ≡ promising w write_signature_share_response.ended κs
+      (λ r e. Wrote (writeSignatureShareResponse (length (now out)) h (now ids) (now z-i) (now counts) (now key-ids))
+      (now out) r (now (e .0)))
+  write-signature-share-response-is κs h = refl

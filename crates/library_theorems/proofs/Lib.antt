@@ -6,6 +6,7 @@ pub mod Formed
 pub mod Calls
 pub mod Demands
 pub mod Changes
+pub mod Responses
 pub mod Contracts
 pub mod Makes
 pub mod Zeros

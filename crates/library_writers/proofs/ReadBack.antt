@@ -1,7 +1,7 @@
 -- What is written is read as what was given.
 -- Assumes nothing.
 use Prim.Native.Nat.{ℕ, _+_, _≤_}
-use mathlib.Core.Path.{_≡_, ap}
+use mathlib.Core.Path.{_≡_, refl, ap}
 use mathlib.Core.Bool.{true}
 use mathlib.Core.List.{List}
 use lib.ListN.{length}
@@ -15,9 +15,10 @@ use Rattle.layout.proofs.RoundTrip.{decode-encode}
 use Rattle.body.specs.Body.{requestOf}
 use Rattle.requests.specs.Requests.{shareRequestOf}
 use Rattle.library_writers.specs.declared.given.RcHead.{RcHead}
+use Rattle.library_writers.specs.declared.given.RcResponseHead.{RcResponseHead}
 use Rattle.library_writers.specs.declared.given.RcResponses.{RcResponses}
-use Rattle.library_writers.specs.Given.{headOf, responsesOf}
-use Rattle.library_writers.specs.ReadBack.{headerGiven, ReadAs}
+use Rattle.library_writers.specs.Given.{headOf, responseHeadOf, responsesOf}
+use Rattle.library_writers.specs.ReadBack.{headerGiven, ReadAs, HeadGiven}
 
 -- the type's number, in a header of the head's
 pub type-given :
@@ -45,3 +46,8 @@ module _ (h : RcHead) (few : h .«signature_type» ≤ 3) (message : List ℕ) w
         decoded = decode-encode (signatureShareRequest (shareRequestOf (headOf h) message source (responsesOf ps))) f w;
         headed = type-given 3 _ h few;
       }
+
+-- kinds 2 and 4: the head's numbers, each under its name
+pub head-given : (h : RcResponseHead) → HeadGiven h (responseHeadOf h)
+unfolding responseHeadOf
+head-given h = record { dkg-id = refl; sign-id = refl; sign-iter-id = refl; signer-id = refl }

@@ -10,7 +10,9 @@ use Rattle.pieces.specs.declared.places.ResponsePlaces.{ResponsePlaces}
 use Rattle.pieces.specs.declared.places.SignerIds.{SignerIds}
 use Rattle.job.specs.declared.JobPlace.{JobPlace}
 use Rattle.job.specs.declared.JobPlaces.{JobPlaces}
+use Rattle.responses.specs.declared.lists.ResponseHead.{ResponseHead}
 use Rattle.library_writers.specs.declared.given.RcHead.{RcHead}
+use Rattle.library_writers.specs.declared.given.RcResponseHead.{RcResponseHead}
 use Rattle.library_writers.specs.declared.given.RcSignerIds.{RcSignerIds}
 use Rattle.library_writers.specs.declared.given.RcPlace.{RcPlace}
 use Rattle.library_writers.specs.declared.given.RcResponse.{RcResponse}
@@ -28,6 +30,13 @@ headOf h =
 
 abbrev pub signerIdOf : ℕ → SignerId
 signerIdOf n = record { 0 = n }
+
+unfoldable pub responseHeadOf : RcResponseHead → ResponseHead
+responseHeadOf given =
+    record {
+      ids = record { «dkg_id» = given .«dkg_id»; «sign_id» = given .«sign_id»; «sign_iter_id» = given .«sign_iter_id» };
+      «signer_id» = signerIdOf (given .«signer_id»);
+    }
 
 unfoldable pub signersGiven : RcSignerIds → SignerIds
 signersGiven s = record { ids = map signerIdOf (s .ids); count = s .count }

@@ -1,7 +1,7 @@
 // What a host gives a writer, as plain numbers. An array has the limit's places; its count may say more, which is refused with 9.
 ghost use mathlib.Core.Path.{_≡_};
 ghost use mathlib.Core.List.{map};
-ghost use Rattle.library_writers.specs.Given.{headOf, signerIdOf, signersGiven, placeOf, responseOf, responsesOf, jobPlaceOf, jobPlacesOf};
+ghost use Rattle.library_writers.specs.Given.{headOf, responseHeadOf, signerIdOf, signersGiven, placeOf, responseOf, responsesOf, jobPlaceOf, jobPlacesOf};
 use body::RequestHead;
 use job::JobPlace;
 use job::JobPlaces;
@@ -14,6 +14,7 @@ use pieces::places::Place;
 use pieces::places::ResponsePlace;
 use pieces::places::ResponsePlaces;
 use pieces::places::SignerIds;
+use responses::lists::ResponseHead;
 
 // Ids, type and root of a request or a job. The root counts where the type is 3.
 #[repr(C)]
@@ -24,6 +25,16 @@ pub struct RcHead {
     pub signature_type: u8,
     pub reserved: [u8; 7],
     pub root: [u8; ROOT_LENGTH],
+}
+
+// Who responds, and to which request.
+#[repr(C)]
+pub struct RcResponseHead {
+    pub dkg_id: u64,
+    pub sign_id: u64,
+    pub sign_iter_id: u64,
+    pub signer_id: u32,
+    pub reserved: u32,
 }
 
 // The first `count` of the ids.
@@ -88,6 +99,20 @@ pub fn head(h: RcHead) -> RequestHead
         ids,
         signature_type,
         root,
+    }
+}
+
+pub fn response_head(given: RcResponseHead) -> ResponseHead
+    ensures { λ r. ⌜ r ≡ responseHeadOf given ⌝ }
+{
+    let ids = Ids {
+        dkg_id: given.dkg_id,
+        sign_id: given.sign_id,
+        sign_iter_id: given.sign_iter_id,
+    };
+    ResponseHead {
+        ids,
+        signer_id: SignerId(given.signer_id),
     }
 }
 

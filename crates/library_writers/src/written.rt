@@ -30,7 +30,7 @@ pub struct RcWritten {
 // The last type, Taproot with a root, by number.
 const LAST_TYPE: u8 = 3;
 
-fn plain_of(w: Written) -> RcWritten
+pub fn plain_of(w: Written) -> RcWritten
     ensures { λ r. ⌜ r ≡ plain w ⌝ }
 {
     match w {

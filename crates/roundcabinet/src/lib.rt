@@ -15,7 +15,8 @@ ghost use Rattle.body.specs.Body.{requestOf};
 ghost use Rattle.requests.specs.Requests.{writeShareRequest};
 ghost use Rattle.writer.specs.Results.{writeNonceTimeout, writeInsufficientSigners};
 ghost use Rattle.job.specs.Job.{writeJob};
-ghost use Rattle.library_writers.specs.Given.{headOf, signersGiven, responsesOf, jobPlacesOf};
+ghost use Rattle.responses.specs.Responses.{writeNonceResponse, writeSignatureShareResponse};
+ghost use Rattle.library_writers.specs.Given.{headOf, responseHeadOf, signersGiven, responsesOf, jobPlacesOf};
 ghost use Rattle.library_writers.specs.Written.{typed, WrotePlain};
 ghost use Rattle.state_bytes.specs.Places.{stateLength};
 ghost use Rattle.interface.specs.Configs.{configOf, isYes};
@@ -37,12 +38,14 @@ use library_reader::RcPacket;
 use library_reader::RcPart;
 use library_writers::given::RcHead;
 use library_writers::given::RcJobPlaces;
+use library_writers::given::RcResponseHead;
 use library_writers::given::RcResponses;
 use library_writers::given::RcSignerIds;
+use library_writers::responses_written;
 use library_writers::written;
 use library_writers::written::RcWritten;
 
-const VERSION: u32 = 256;
+const VERSION: u32 = 512;
 
 // The version of the library that is linked, for a host to hold against the header's.
 #[no_mangle]
@@ -305,4 +308,43 @@ pub extern "C" fn rc_write_insufficient_signers(out: &mut [u8], malicious: RcSig
         (now (out .entry)) r (now (out .exit)) ⌝ }
 {
     written::write_insufficient_signers(out, malicious)
+}
+
+// A signer's writers: 9, then 26.
+#[no_mangle]
+pub extern "C" fn rc_write_nonce_response(
+    out: &mut [u8],
+    given: RcResponseHead,
+    message: &[u8],
+    key_ids: &[u32],
+    nonces: &[u8],
+) -> RcWritten
+    ensures { λ r. ⌜ WrotePlain (writeNonceResponse (length (now (out .entry))) (responseHeadOf given)
+        (now (message .entry)) (now («key_ids» .entry)) (now (nonces .entry)))
+        (now (out .entry)) r (now (out .exit)) ⌝ }
+{
+    responses_written::write_nonce_response(out, given, message, key_ids, nonces)
+}
+
+#[no_mangle]
+pub extern "C" fn rc_write_signature_share_response(
+    out: &mut [u8],
+    given: RcResponseHead,
+    share_ids: &[u32],
+    z_i: &[u8],
+    key_counts: &[u32],
+    key_ids: &[u32],
+) -> RcWritten
+    ensures { λ r. ⌜ WrotePlain (writeSignatureShareResponse (length (now (out .entry))) (responseHeadOf given)
+        (now («share_ids» .entry)) (now («z_i» .entry)) (now («key_counts» .entry)) (now («key_ids» .entry)))
+        (now (out .entry)) r (now (out .exit)) ⌝ }
+{
+    responses_written::write_signature_share_response(
+        out,
+        given,
+        share_ids,
+        z_i,
+        key_counts,
+        key_ids,
+    )
 }
