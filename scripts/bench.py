@@ -1,9 +1,10 @@
 #!/usr/bin/env python3
 """Writes crates/bench/stdin and crates/bench/stdout: the cases of the host's test program for Bench, and what it must print.
 
-The model below is written from document 01 ("Packet layout", questions 7 to 9, "The table of states") and shares no code with the
-crates. Run from the repository's root; both files are committed, so nothing needs this script to pass.
+The model below is written from document 01 ("Packet layout", questions 7 to 9, "The table of states") and from document 02's a), and shares
+no code with the crates. Run from the repository's root; both files are committed, so nothing needs this script to pass.
 """
+import random
 import re
 
 G = bytes.fromhex("0279BE667EF9DCBBAC55A06295CE870B07029BFCDB2DCE28D959F2815B16F81798")
@@ -258,6 +259,180 @@ def w_dkg(label, kind, dkg, signer=0, lent=19232):
     case(str(kind), label, "00 2:%d 2:%d 2:%d" % (lent, dkg, signer), wrote(data, min(lent, 19240), asked(lent, True)))
 
 
+# --- what a signer sends (02, a): 9 is asked, then 26; 7 is not
+
+def lent_to(data, lent):
+    """data: the packet, or None where 9 refuses."""
+    return wrote(data or b"", lent, 9 if data is None else 26 if lent < len(data) else None)
+
+
+def head_text(lent, signer, ids, lengths):
+    return " ".join(["2:%d 4:%d 8:%d 8:%d 8:%d" % (lent, signer, *ids)] + ["2:%d" % n for n in lengths])
+
+
+def numbers(*lists):
+    return b"".join(le(4, x) for xs in lists for x in xs)
+
+
+def nonce_response(message, keys, nonces, signer, ids):
+    if len(message) > 256 or len(keys) > 16 or len(nonces) % 66 or len(nonces) > 16 * 66:
+        return None
+    return packet(2, [message, numbers(keys), nonces], 0, signer, ids)
+
+
+def share_response(share_ids, z, counts, keys, signer, ids):
+    if len(share_ids) > 16 or len(keys) > 16 or len(z) != 32 * len(share_ids) or len(counts) != len(share_ids) or sum(counts) != len(keys):
+        return None
+    left = list(keys)
+    parts = [share(i, [left.pop(0) for _ in range(n)], z[32 * j:32 * j + 32]) for j, (i, n) in enumerate(zip(share_ids, counts))]
+    return packet(4, parts, 0, signer, ids)
+
+
+# a signer and the three ids: usual ones, ones of which every byte differs, the largest
+ONE = (1, (1, 2, 3))
+EVERY = (0x04030201, (0x1817161514131211, 0x2827262524232221, 0x4847464544434241))
+LARGEST = (2 ** 32 - 1, (2 ** 64 - 1,) * 3)
+
+
+def w_nonces(label, message, keys, nonces, lent=1500, head=ONE, gives=""):
+    """gives: how the answer starts by the paper, where that is worked out by hand."""
+    answer = lent_to(nonce_response(message, keys, nonces, *head), lent)
+    assert answer.startswith(gives), (label, answer)
+    case("2", label, head_text(lent, *head, (len(message), len(keys), len(nonces))) + " " + tokens(message + numbers(keys) + nonces), answer)
+
+
+def w_shares(label, share_ids, z, counts, keys, lent=900, head=ONE, gives=""):
+    answer = lent_to(share_response(share_ids, z, counts, keys, *head), lent)
+    assert answer.startswith(gives), (label, answer)
+    lengths = (len(share_ids), len(z), len(counts), len(keys))
+    case("4", label, head_text(lent, *head, lengths) + " " + tokens(numbers(share_ids) + z + numbers(counts, keys)), answer)
+
+
+def some_nonces(n, first=1):
+    """n nonces, each of its own bytes."""
+    return b"".join(bytes([2] + [i % 256] * 32 + [3] + [(i + 100) % 256] * 32) for i in range(first, first + n))
+
+
+def some_z(n, first=1):
+    return b"".join(bytes([i % 256] * 31 + [(i + 7) % 256]) for i in range(first, first + n))
+
+
+def nonce_cases():
+    a, two = b"a", some_nonces(2)
+    for n, gives in ((197, "197 bytes"), (196, "refused 26"), (198, "197 bytes"), (31, "refused 26"), (0, "refused 26"), (19240, "197 bytes")):
+        w_nonces("nonces of 2 and 3 into %d" % n, a, (2, 3), two, n, gives=gives)
+    w_nonces("nonces: message of 257, nothing lent: 9 before 26", bytes(257), (), b"", 0, gives="refused 9")
+    w_nonces("nonces: message of 256, nothing lent", bytes(256), (), b"", 0, gives="refused 26")
+    w_nonces("nonces: a ragged nonce, nothing lent: 9 before 26", a, (2,), bytes(65), 0, gives="refused 9")
+    w_nonces("nonces: 17 nonces, nothing lent: 9 before 26", a, (2,), some_nonces(17), 0, gives="refused 9")
+    w_nonces("nonces: 17 key ids, one byte too few lent: 9 before 26", a, tuple(range(17)), two, 56 + 1 + 68 + 131, gives="refused 9")
+    for n in (1431, 1432, 1433):
+        w_nonces("largest nonces into %d" % n, bytes(range(256)), tuple(range(100, 116)), some_nonces(16), n, gives="refused 26" if n == 1431 else "1432 bytes")
+    for n in (255, 256, 257):
+        w_nonces("nonces: message of %d" % n, bytes([n % 251] * n), (2, 3), two)
+    for n in (15, 16, 17, 18, 40):
+        w_nonces("nonces: %d key ids" % n, a, tuple(range(n)), b"")
+        w_nonces("nonces: %d nonces" % n, a, (2,), some_nonces(n))
+    for n in (1, 22, 33, 44, 60, 64, 65, 67, 68, 131, 133, 1055, 1057, 1121, 1123):
+        w_nonces("nonces of %d bytes" % n, a, (2, 3), bytes([2] * n))
+    for n in (55, 56, 57):
+        w_nonces("nonces: empty lists into %d" % n, b"", (), b"", n)
+    w_nonces("nonces: no message", b"", (2, 3), two)
+    w_nonces("nonces: a message alone", b"abc", (), b"")
+    w_nonces("nonces: keys alone", b"", (7, 8, 9), b"")
+    w_nonces("nonces: nonces alone", b"", (), some_nonces(3))
+    w_nonces("nonces: more than the keys", a, (2,), some_nonces(5))
+    w_nonces("nonces: fewer than the keys", a, (2, 3, 4, 5), some_nonces(1))
+    w_nonces("nonces: repeats", a, (3, 2, 3, 3), two[:66] * 4)
+    w_nonces("nonces: identity and generator are not looked at", a, (2, 3), bytes(66) + G + G)
+    w_nonces("nonces: no key is looked at", a, (0, 2 ** 32 - 1), two)
+    w_nonces("nonces: bytes of every number", bytes(range(255, -1, -1)), (0x31323334, 0x35363738), bytes(range(100, 232)), head=EVERY)
+    w_nonces("nonces: largest numbers", b"\xff", (2 ** 32 - 1,) * 2, bytes([255] * 66), head=LARGEST)
+    w_nonces("nonces: numbers of 0", a, (0,), some_nonces(1), head=(0, (0, 0, 0)))
+
+
+def share_cases():
+    for n, gives in ((84, "84 bytes"), (83, "refused 26"), (85, "84 bytes"), (32, "refused 26"), (0, "refused 26"), (19240, "84 bytes")):
+        w_shares("a share of 2 and 3 into %d" % n, (1,), some_z(1), (2,), (2, 3), n, gives=gives)
+    for n, gives in ((32, "32 bytes"), (31, "refused 26"), (33, "32 bytes"), (0, "refused 26")):
+        w_shares("no shares into %d" % n, (), b"", (), (), n, gives=gives)
+    for n in (799, 800, 801):
+        w_shares("largest shares into %d" % n, tuple(range(50, 66)), some_z(16), (1,) * 16, tuple(range(100, 116)), n, gives="refused 26" if n == 799 else "800 bytes")
+    w_shares("shares: 16 with all keys in the third", tuple(range(16)), some_z(16), (0, 0, 16) + (0,) * 13, tuple(range(16)), 800, gives="800 bytes")
+    for n in (15, 16, 17, 18, 40):
+        w_shares("%d shares without keys" % n, tuple(range(n)), some_z(n), (0,) * n, ())
+        w_shares("%d shares, a key each" % n, tuple(range(n)), some_z(n), (1,) * n, tuple(range(n)))
+        w_shares("a share of %d keys" % n, (1,), some_z(1), (n,), tuple(range(n)))
+        w_shares("%d keys over two shares" % n, (1, 2), some_z(2), (8, n - 8), tuple(range(n)))
+    two, z = (1, 2), some_z(2)
+    good = dict(share_ids=two, z=z, counts=(1, 2), keys=(5, 6, 7))
+    ragged = {
+        "z_i a byte short": dict(z=z[:-1]), "z_i a byte long": dict(z=z + b"\1"), "z_i of one share": dict(z=z[:32]), "z_i of three": dict(z=some_z(3)), "no z_i": dict(z=b""),
+        "a share id too few": dict(share_ids=(1,)), "a share id too many": dict(share_ids=(1, 2, 3)), "no share ids": dict(share_ids=()),
+        "a count too few": dict(counts=(1,)), "a count too few, all keys": dict(counts=(3,)), "a count too many": dict(counts=(1, 2, 1)), "a count of 0 too many": dict(counts=(1, 2, 0)), "no counts": dict(counts=()),
+        "counts above the keys": dict(counts=(1, 3)), "counts below the keys": dict(counts=(1, 1)), "counts of 0": dict(counts=(0, 0)), "no keys": dict(keys=()),
+        "a key too few": dict(keys=(5, 6)), "a key too many": dict(keys=(5, 6, 7, 8)),
+        "a count of 2^32 - 1": dict(counts=(2 ** 32 - 1, 3)), "counts that wrap to the keys": dict(counts=(2 ** 32 - 1, 4)), "counts that wrap to the keys, last": dict(counts=(4, 2 ** 32 - 1)),
+        "counts that wrap to 0": dict(counts=(2 ** 31, 2 ** 31), keys=()), "counts whose bytes wrap": dict(counts=(2 ** 30, 3)),
+    }
+    for label, other in ragged.items():
+        w_shares("shares: %s" % label, **{**good, **other}, gives="refused 9")
+        w_shares("shares: %s, nothing lent: 9 before 26" % label, **{**good, **other}, lent=0, gives="refused 9")
+    w_shares("shares: 16 counts of 2^32 - 1", tuple(range(16)), some_z(16), (2 ** 32 - 1,) * 16, (), gives="refused 9")
+    w_shares("shares: 40 counts of 2^32 - 1 for one share", (1,), some_z(1), (2 ** 32 - 1,) * 40, (1,), gives="refused 9")
+    w_shares("no shares: a count", (), b"", (0,), (), gives="refused 9")
+    w_shares("no shares: a key", (), b"", (), (1,), gives="refused 9")
+    w_shares("no shares: a z_i", (), some_z(1), (), (), gives="refused 9")
+    w_shares("17 shares, nothing lent: 9 before 26", tuple(range(17)), some_z(17), (0,) * 17, (), 0, gives="refused 9")
+    w_shares("17 keys, nothing lent: 9 before 26", (1,), some_z(1), (17,), tuple(range(17)), 0, gives="refused 9")
+    w_shares("16 of each, nothing lent", tuple(range(16)), some_z(16), (1,) * 16, tuple(range(16)), 0, gives="refused 26")
+    w_shares("shares: some without keys", (9, 8, 7, 6), some_z(4), (0, 2, 0, 1), (5, 6, 7))
+    w_shares("shares: repeats", (4, 4, 4), some_z(1) * 3, (2, 1, 1), (3, 3, 3, 3))
+    w_shares("shares: z_i of 0", (0,), bytes(32), (1,), (0,))
+    w_shares("shares: bytes of every number", (0x51525354, 0x55565758), bytes(range(150, 214)), (1, 2), (0x31323334, 0x35363738, 0x393a3b3c), head=EVERY)
+    w_shares("shares: largest numbers", (2 ** 32 - 1,), bytes([255] * 32), (2,), (2 ** 32 - 1,) * 2, head=LARGEST)
+    w_shares("shares: numbers of 0", (0,), some_z(1), (1,), (0,), head=(0, (0, 0, 0)))
+
+
+def not_as_said():
+    """Cases whose lists the program has no room for, or whose bytes are not as many as their lengths say."""
+    def not_run(lengths, size, why):
+        label = "lists of " + ", ".join("%d" % n for n in lengths) + " in %d bytes" % size
+        case("2" if len(lengths) == 3 else "4", label, head_text(100, *ONE, lengths) + " %d*00" % size, "not run: " + why)
+    for lengths in ((0, 41, 0), (41, 0, 0, 0), (0, 0, 41, 0), (0, 0, 0, 41)):
+        not_run(lengths, 164, "no list of numbers is longer than 40")
+    for lengths, sizes in (((1, 1, 66), (0, 70, 72)), ((1, 32, 1, 1), (0, 43, 45)), ((65535, 40, 65535), (0, 30000)), ((40, 65535, 40, 40), (0, 30000))):
+        for size in sizes:
+            not_run(lengths, size, "the lists are not as long as the case says")
+
+
+def drawn_head(r):
+    return r.getrandbits(32), tuple(r.getrandbits(r.choice((8, 32, 64))) for _ in range(3))
+
+
+def drawn_room(r, data, most):
+    """A buffer around the packet's length; of any length where 9 refuses."""
+    return r.randrange(most) if data is None else max(0, len(data) + r.choice((-8, -2, -1, -1, 0, 0, 0, 1, 1, 2, 8, 100)))
+
+
+def drawn_nonces(r, label):
+    n, head = r.choice((0, 1, 2, 3, 5, 8, 15, 16, 17)), drawn_head(r)
+    message = r.randbytes(r.choice((0, 1, 2, 3, 5, 32, 33))) + bytes([r.randrange(256)] * r.choice((0, 0, 0, 0, 0, 200, 223, 224)))
+    keys = [r.getrandbits(r.choice((3, 32))) for _ in range(r.choice((n, n, n, 0, 1, 16)))]
+    nonces = (r.randbytes(66 * n) if n < 3 else some_nonces(n, r.randrange(256))) + bytes([9] * r.choice((0,) * 20 + (1, 65)))
+    w_nonces(label, message, keys, nonces, drawn_room(r, nonce_response(message, keys, nonces, *head), 1440), head)
+
+
+def drawn_shares(r, label):
+    n = r.choice((0, 1, 1, 2, 3, 4, 5, 8, 15, 16, 17))
+    counts = [r.choice((0, 1, 1, 2, 3)) if n < 8 else r.choice((0, 1, 1)) for _ in range(n)]
+    keys = [r.getrandbits(r.choice((3, 32))) for _ in range(max(0, sum(counts) + r.choice((0,) * 20 + (-1, 1))))]
+    counts += [0] * r.choice((0,) * 15 + (1,))
+    z = (r.randbytes(32 * n) if n < 4 else some_z(n, r.randrange(256))) + bytes([9] * r.choice((0,) * 20 + (1, 32)))
+    share_ids, head = [r.getrandbits(r.choice((3, 32))) for _ in range(n)], drawn_head(r)
+    w_shares(label, share_ids, z, counts, keys, drawn_room(r, share_response(share_ids, z, counts, keys, *head), 810), head)
+
+
 STATES = ["Idle", "DkgPublicDistribute", "DkgPublicGather", "DkgPublicSharesDoneDistribute", "DkgPublicSharesDoneGather", "DkgPrivateDistribute", "DkgPrivateGather", "DkgPrivateSharesDoneDistribute", "DkgPrivateSharesDoneGather", "DkgEndDistribute", "DkgEndGather", "NonceRequest", "NonceGather", "SigShareRequest", "SigShareGather"]
 
 
@@ -360,6 +535,13 @@ def main():
         for k in (5, 6, 7):
             w_dkg("kind %d, buffer of %d" % (k, n), k, 7, 0, n)
     w_request("7 before 9", 0, 257, 0)
+    # what a signer sends
+    nonce_cases()
+    share_cases()
+    drawn = random.Random(2)
+    for i in range(40):
+        drawn_nonces(drawn, "nonces drawn at random, %d" % i)
+        drawn_shares(drawn, "shares drawn at random, %d" % i)
     # damaged packets
     r("nothing at all", b"")
     r("31 bytes", packet(5, [], ids=(7, 0, 0))[:31])
@@ -438,6 +620,10 @@ def main():
     told("the first fault is told, another first", "zz 1:256 32769*00")
     for letter in "NSJTI567":
         line("%s letter %s, buffer of 19,241 | 00 2:19241" % (letter, letter), "letter %s, buffer of 19,241: not run: no buffer is longer than 19240 bytes" % letter)
+    for letter in "24":
+        line("%s letter %s, buffer of 19,241 | 2:19241" % (letter, letter), "letter %s, buffer of 19,241: not run: no buffer is longer than 19240 bytes" % letter)
+        line("%s letter %s, no bytes |" % (letter, letter), "letter %s, no bytes: not run: the lists are not as long as the case says" % letter)
+    not_as_said()
     line("N type 4, written | 04 2:19232 2:5", "type 4, written: not run: no signature type is above 3")
     line("M from state 15 | 0f 00 00 00 00 00", "from state 15: not run: no state is above 14")
     line("M to state 15 | 00 00 00 0f 00 00", "to state 15: not run: no state is above 14")

@@ -1,5 +1,7 @@
-// One case, by its letter: R a packet read, V nonces tested, K key lists compared, M a move asked, and the writers (writes.rt).
+// One case, by its letter: R a packet read, V nonces tested, K key lists compared, M a move asked, and the writers (writes.rt,
+// signer_packets.rt).
 use crate::lists;
+use crate::signer_packets;
 use crate::writes;
 use layout::Header;
 use layout::Ids;
@@ -93,6 +95,7 @@ fn moves(s: &[u8]) {
 pub fn is_letter(b: u8) -> bool {
     match b {
         b'R' | b'V' | b'K' | b'M' => true,
+        b'2' | b'4' => true,
         b'N' | b'S' | b'J' | b'T' | b'I' | b'5' | b'6' | b'7' => true,
         _ => false,
     }
@@ -111,6 +114,7 @@ pub fn run(
         b'V' => yes_or_no(validity::nonces::are_valid(s)),
         b'K' => compare(s),
         b'M' => moves(s),
+        b'2' | b'4' => signer_packets::run(letter, s),
         _ => writes::run(letter, s, store),
     }
 }

@@ -1,9 +1,10 @@
 // The host's test program for Bench: replays the script on standard input, a case a line, and prints what the reader, the writers,
 // the tests of a response and the table of states answer. docs/BENCH.md says how a line reads; scripts/bench.py, which follows
-// document 01 and shares no code with the crates, writes the script and the expected output.
+// documents 01 and 02 and shares no code with the crates, writes the script and the expected output.
 mod answers;
 mod lists;
 mod pattern;
+mod signer_packets;
 mod writes;
 
 use script::cases;

@@ -155,7 +155,7 @@ fn read_back(out: &[u8], n: usize) {
 }
 
 // The answer, a sum over the whole buffer, and what the reader says of the packet.
-fn show(w: Written, out: &[u8]) {
+pub fn show(w: Written, out: &[u8]) {
     match w {
         Written::Bytes(n) => {
             io::print_decimal(1, n as u64);
@@ -171,12 +171,16 @@ fn show(w: Written, out: &[u8]) {
     }
 }
 
+pub fn tell_buffer() {
+    print::text(b"not run: no buffer is longer than 19240 bytes");
+}
+
 // A buffer eight bytes longer than an answer needs, of which the case lends a part.
 pub fn run(letter: u8, s: &[u8], store: &[u8; layout::STORE_LENGTH]) {
     let mut out = [0xaau8; 19240];
     let n = wire::u16_at(s, 1) as usize;
     if 19240 < n {
-        print::text(b"not run: no buffer is longer than 19240 bytes");
+        tell_buffer();
         return;
     }
     if 3 < wire::byte(s, 0) {
