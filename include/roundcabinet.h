@@ -24,7 +24,8 @@
  *   state   RC_STATE_LENGTH bytes, the coordinator itself. Opaque; write it to disk as it is, and load it again.
  *   store   RC_STORE_LENGTH bytes, what signers sent. Write it to disk beside the state, in one transaction: each without the other is worth nothing.
  *   out     RC_ANSWER_LENGTH bytes, for the packet, the result or the job that a call writes. Scratch: nothing is read from it.
- * Longer buffers are taken; what lies past these lengths is neither read nor written, but for commissioning, which zeroes the whole lent store.
+ * Longer buffers are taken; what lies past these lengths is neither read nor written, but for commissioning, which zeroes the whole lent store. A signer's
+ * program holds none of these: its two writers, on the last page, are lent an out that may be as short as the packet.
  *
  * What is proved of every call, for any bytes and any lengths whatever: it returns, reads and writes nothing outside the buffers, and gives exactly the
  * answer, state, store and answer buffer (bytes past the written length included) that the definitions say. A refusal writes nothing to out and changes
@@ -32,7 +33,7 @@
  *
  * What the host vouches for, because nothing here can see it:
  *   - the lengths beside pointers are true, the buffers of one call do not overlap, and one caller at a time uses them. state, store and out are not NULL;
- *     what is only read (ended, message, root, packet, source) may be NULL where its length is 0;
+ *     what is only read (ended, message, root, packet, source, a signer's lists) may be NULL where its length is 0;
  *   - nobody else writes state or store between calls;
  *   - the verdict on a packet's seal (signature), and that other points and scalars than identity and generator are what they claim to be;
  *   - clock readings in nanoseconds that do not go back (a reading that does counts as no time elapsed);
@@ -96,7 +97,7 @@ extern "C" {
 /* This header's version: 65536 for each major, 256 for each minor, 1 for each patch number. rc_version() says the linked archive's; a host that finds
  * another one has a header and an archive that do not belong together. RC_STATE_VERSION stands in bytes 8 to 15 of a saved state; a state of another version
  * is refused with RC_REFUSED_STATE. */
-#define RC_VERSION 256u
+#define RC_VERSION 512u
 #define RC_STATE_VERSION 1
 uint32_t rc_version(void) RC_ANSWERS;
 
@@ -107,13 +108,16 @@ uint32_t rc_version(void) RC_ANSWERS;
 #define RC_MESSAGE_LIMIT 256
 #define RC_SIGNER_LIMIT 10
 #define RC_KEY_LIMIT 16
+/* The longest packets that a signer sends, kind 2 and kind 4. */
+#define RC_NONCE_RESPONSE_LIMIT 1432
+#define RC_SHARE_RESPONSE_LIMIT 800
 /* One place more than the limits, so that a host can say what is refused. */
 #define RC_SIGNER_PLACES 11
 #define RC_KEY_PLACES 17
 
 /* Stack: how much is enough for each call, in bytes, whatever path it takes (retry, job and refusals included). It is counted from where the caller's frame
  * ends: arguments that lie on the stack are in it, the caller's own frames and signal handlers are not. The deepest is known over all paths, from the
- * archive's instructions (hosts/c/depth.py: 79840, 20704, 38672 and 7920 bytes), and at least a quarter of that was added. hosts/c/stack.c makes each call on
+ * archive's instructions (hosts/c/depth.py: 79840, 20064, 38672 and 7888 bytes), and at least a quarter of that was added. hosts/c/stack.c makes each call on
  * a stack of exactly this size. A frame of more than a page touches each page from the top down: on a stack that is too small and has a guard page below it
  * the call dies there, and writes to nobody's memory. A thread of 64 KiB is too small for rc_process, and would die only once a well-formed packet comes. */
 #define RC_STACK_PROCESS (100 * 1024)   /* rc_process, rc_process_message */
@@ -149,7 +153,7 @@ uint32_t rc_version(void) RC_ANSWERS;
 #define RC_TAPROOT 2
 #define RC_TAPROOT_ROOT 3 /* a Taproot root of 32 bytes lies beside it */
 
-/* Numbers of refusals: 01's. Unless something is said, a refusal changes nothing. */
+/* Numbers of refusals: 01's up to 25; 26 is asked by a signer's writers alone. Unless something is said, a refusal changes nothing. */
 #define RC_REFUSED_SIGNERS 1            /* commissioning: more than 10 signers, or an id twice. The state is uncommissioned, the store untouched */
 #define RC_REFUSED_KEYS 2               /* commissioning: a key set of more than 16 keys, or a key twice. As 1 */
 #define RC_REFUSED_TOTAL 3              /* commissioning: the key sets have more keys than num_keys. As 1 */
@@ -159,7 +163,8 @@ uint32_t rc_version(void) RC_ANSWERS;
 #define RC_REFUSED_ROOM 7               /* out is shorter than RC_ANSWER_LENGTH */
 #define RC_REFUSED_LAYOUT 8             /* the packet is not laid out as 01 says; also a signature type above 3, RC_TAPROOT_ROOT with
                                          * a root that has not 32 bytes, a state above 14 */
-#define RC_REFUSED_LIMIT 9              /* a message, a list or the nested responses are over 01's limits */
+#define RC_REFUSED_LIMIT 9              /* a message, a list or the nested responses are over 01's limits; of a signer's writers also
+                                         * lists that do not agree */
 #define RC_REFUSED_GROUP_KEY 10         /* no group key held. Idle: the iteration is changed. Gathering: response recorded, message replaced */
 #define RC_REFUSED_MOVE 11              /* the state does not allow a start. Message and sign id ARE changed: see rc_start_signing_round */
 #define RC_REFUSED_NO_RECORD 12         /* a timeout fired, and nobody has answered the current message */
@@ -176,6 +181,7 @@ uint32_t rc_version(void) RC_ANSWERS;
 #define RC_REFUSED_AGGREGATION 23       /* the aggregator failed; the job is no longer out */
 #define RC_REFUSED_NOT_IDLE 24          /* results of key generation are taken in Idle alone */
 #define RC_REFUSED_ENDED 25             /* more than 10 ended signers, or one that is not configured */
+#define RC_REFUSED_BUFFER 26            /* a signer's writer was lent a buffer that is shorter than the packet */
 
 /* A number of a refusal in words, and a kind of packet. For logs; the crate for Rust says the same words. */
 static inline const char *rc_text(uint32_t number) {
@@ -206,6 +212,7 @@ static inline const char *rc_text(uint32_t number) {
     case RC_REFUSED_AGGREGATION: return "the aggregator failed";
     case RC_REFUSED_NOT_IDLE: return "results of key generation are taken in Idle alone";
     case RC_REFUSED_ENDED: return "more than 10 ended signers, or one that is not configured";
+    case RC_REFUSED_BUFFER: return "the lent buffer is shorter than the packet";
     default: return "no number of this library's";
     }
 }
@@ -366,7 +373,7 @@ rc_part rc_packet_part(const uint8_t *packet, size_t packet_length, uint16_t i) 
 /*
  * Bench's writers, for a host that wants packets of its own: each writes one packet to the front of out, which has to have RC_ANSWER_LENGTH bytes
  * (RC_REFUSED_ROOM), and leaves the bytes past it alone; a refusal writes nothing. Lists and messages over 01's limits are RC_REFUSED_LIMIT, a signature
- * type above 3 is RC_REFUSED_LAYOUT. What the coordinator sends, its calls write by themselves. Packets of signers (kinds 2 and 4) have no writer here yet.
+ * type above 3 is RC_REFUSED_LAYOUT. What the coordinator sends, its calls write by themselves; what a signer sends (kinds 2 and 4), the writers after these.
  */
 typedef struct rc_written {
     uint32_t refusal; /* 0, or RC_REFUSED_... */
@@ -443,6 +450,38 @@ rc_written rc_write_dkg_coordinator(uint8_t *out, size_t out_length, uint64_t dk
 /* Kinds 33 and 34. */
 rc_written rc_write_nonce_timeout(uint8_t *out, size_t out_length, rc_signer_ids waiters, rc_signer_ids malicious) RC_LENT(1);
 rc_written rc_write_insufficient_signers(uint8_t *out, size_t out_length, rc_signer_ids malicious) RC_LENT(1);
+
+/*
+ * A signer's writers, for a program that holds no coordinator: what a signer sends, from plain fields and lists. Each writes one packet to the front of
+ * out, which may be as short as the packet: an exact fit is taken, and bytes past the packet are left alone. RC_NONCE_RESPONSE_LIMIT and
+ * RC_SHARE_RESPONSE_LIMIT bytes are always enough. Asked 9, then 26 where out is shorter than the packet, and not 7; a refusal writes nothing. Every packet
+ * written is read back as those fields, and every packet of kinds 2 and 4 that the reader takes is written back byte for byte.
+ *
+ * Lists are written as they are given: empty ones, no shares, an empty message, repeats, another number of nonces than of keys. No point and no key is
+ * checked: which keys are its own, and that its nonces are points and its z_i scalars, a signer knows by itself. Ids, key ids and counts are numbers; a
+ * nonce is its 66 bytes, a z_i its 32. message, key_ids, nonces, share_ids, z_i and key_counts may be NULL where their length or count is 0.
+ */
+
+/* Who responds, and to which request: the three ids are the request's. reserved is not looked at. */
+typedef struct rc_response_head {
+    uint64_t dkg_id;
+    uint64_t sign_id;
+    uint64_t sign_iter_id;
+    uint32_t signer_id;
+    uint32_t reserved;
+} rc_response_head;
+
+/* Kind 2, of 56 + message_length + 4 * key_count + nonces_length bytes; nonces_length is in bytes. 9: a message of more than RC_MESSAGE_LIMIT bytes, more
+ * than RC_KEY_LIMIT key ids, more than RC_KEY_LIMIT nonces, a nonces_length that is no multiple of 66. */
+rc_written rc_write_nonce_response(uint8_t *out, size_t out_length, rc_response_head head, const uint8_t *message, size_t message_length,
+                                   const uint32_t *key_ids, size_t key_count, const uint8_t *nonces, size_t nonces_length) RC_LENT(1);
+
+/* Kind 4, of 32 + 44 * share_count + 4 * key_count bytes. Share i has the id share_ids[i], the next 32 bytes of z_i, and the next key_counts[i] of key_ids.
+ * 9: more than RC_KEY_LIMIT shares, more than RC_KEY_LIMIT key ids over all shares, a z_i_length (in bytes) that is not 32 * share_count, a
+ * key_counts_length that is not share_count, counts that do not add up to key_count. */
+rc_written rc_write_signature_share_response(uint8_t *out, size_t out_length, rc_response_head head, const uint32_t *share_ids, size_t share_count,
+                                             const uint8_t *z_i, size_t z_i_length, const uint32_t *key_counts, size_t key_counts_length,
+                                             const uint32_t *key_ids, size_t key_count) RC_LENT(1);
 
 #ifdef __cplusplus
 }

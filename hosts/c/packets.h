@@ -1,7 +1,6 @@
 /*
- * Packets as 01 lays them out: a writer for the two kinds that signers send, and where a packet's parts lie. What comes from others is
- * read by the library (rc_read_packet, rc_packet_part); the kinds that it only writes (32 to 34) are read here, by their pairs, as the
- * header says.
+ * Packets, their bytes and where their parts lie. What comes from others is read by the library (rc_read_packet, rc_packet_part); the
+ * kinds that it only writes (32 to 34) are read here, by their pairs, as the header says.
  */
 #ifndef HOST_PACKETS_H
 #define HOST_PACKETS_H
@@ -11,7 +10,8 @@
 #include <stddef.h>
 #include <stdint.h>
 
-enum { PACKET_LIMIT = RC_ANSWER_LENGTH, NONCE_LENGTH = 66, KEY_LENGTH = 4, SHARE_LENGTH = 36 };
+enum { PACKET_LIMIT = RC_ANSWER_LENGTH, HEADER_LENGTH = 32, PAIR_LENGTH = 8 };
+enum { NONCE_LENGTH = 66, KEY_LENGTH = 4, Z_LENGTH = 32, SHARE_LENGTH = KEY_LENGTH + Z_LENGTH };
 
 typedef struct packet {
     size_t length;
@@ -24,18 +24,11 @@ typedef struct span {
     size_t length;
 } span;
 
-typedef struct packet_ids {
-    uint64_t dkg;
-    uint64_t sign;
-    uint64_t iteration;
-} packet_ids;
-
 uint64_t number_at(const uint8_t *bytes, int length);
 void put_number(uint8_t *to, int length, uint64_t n);
 
-/* Kind 2 and kind 4 (of one share). They answer 1 where the library's reader takes what was written. */
-int write_nonce_response(packet *to, uint32_t signer, packet_ids ids, span message, span keys, span nonces);
-int write_share_response(packet *to, uint32_t signer, packet_ids ids, uint32_t share_id, const uint8_t z[32], span keys);
+/* A writer of the library's was lent the packet's bytes: 1 where it wrote. */
+int packet_written(packet *to, rc_written w);
 
 /* Part i of a packet of kinds 1 to 7: empty where the library takes no such packet, or it has no such part. */
 span packet_part(span whole, uint16_t i);

@@ -37,9 +37,9 @@ const char *reply_words(reply r) {
 
 int reply_answers(reply r) { return r <= REPLY_SHARE_AGAIN; }
 
-/* Seals an answer and keeps it as it will leave. */
+/* Seals an answer and keeps it as it will leave. Its writer was lent no more bytes than are kept. */
 static int seal_and_keep(kept_answer *to, sealed *answer, const signer *s) {
-    if (answer->packet.length > ANSWER_LIMIT || !seal_packet(answer, &s->secrets.seal)) return 0;
+    if (!seal_packet(answer, &s->secrets.seal)) return 0;
     to->length = answer->packet.length;
     memcpy(to->bytes, answer->packet.bytes, to->length);
     memcpy(to->seal, answer->seal, SIGNATURE_LENGTH);
@@ -52,17 +52,21 @@ static void recall(sealed *answer, const kept_answer *from) {
     memcpy(answer->seal, from->seal, SIGNATURE_LENGTH);
 }
 
+static rc_response_head response_head(const signer *s, const rc_packet *request) {
+    return (rc_response_head){request->dkg_id, request->sign_id, request->sign_iter_id, s->self->id, 0};
+}
+
 /* Draws D and E and writes the response. */
 static int commit(const signer *s, kept *k, const sealed *request, const rc_packet *header, sealed *answer) {
-    uint8_t nonces[NONCE_LENGTH], keys[KEY_LENGTH * RC_KEY_LIMIT];
+    uint8_t nonces[NONCE_LENGTH];
+    packet *to = &answer->packet;
     const span message = packet_part(span_of(&request->packet), 0);
-    const packet_ids ids = {header->dkg_id, header->sign_id, header->sign_iter_id};
     for (int i = 0; i < 2; i++) {
         point p;
         if (!scalar_draw(&k->nonces[i]) || !point_of(&p, &k->nonces[i]) || !point_write(nonces + POINT_LENGTH * i, &p)) return 0;
     }
-    const span key_ids = {keys, member_keys(s->self, keys)};
-    return write_nonce_response(&answer->packet, s->self->id, ids, message, key_ids, (span){nonces, sizeof nonces}) &&
+    return packet_written(to, rc_write_nonce_response(to->bytes, ANSWER_LIMIT, response_head(s, header), message.bytes, message.length,
+                                                      s->self->keys, s->self->key_count, nonces, sizeof nonces)) &&
            seal_and_keep(&k->commitment, answer, s);
 }
 
@@ -124,22 +128,14 @@ int signer_named(const signer *s, const packet *request) {
 
 /* The nonce request that this share request must follow: the same ids, type, message and root. So it is written again and compared by its
  * digest. */
-static int follows(const kept *k, span whole) {
+static int follows(const kept *k, span whole, const rc_packet *header) {
     packet asked;
+    rc_head head = {header->dkg_id, header->sign_id, header->sign_iter_id, (uint8_t)header->signature_type, {0}, {0}};
     const span message = packet_part(whole, 0), root = packet_part(whole, 1);
-    const size_t head = 32 + 8 * REQUEST_PARTS;
     uint8_t digest[HASH_LENGTH];
-    memcpy(asked.bytes, whole.bytes, 32);
-    asked.bytes[0] = RC_KIND_NONCE_REQUEST;
-    put_number(asked.bytes + 2, 2, REQUEST_PARTS);
-    put_number(asked.bytes + 32, 4, head);
-    put_number(asked.bytes + 36, 4, message.length);
-    put_number(asked.bytes + 40, 4, head + message.length);
-    put_number(asked.bytes + 44, 4, root.length);
-    memcpy(asked.bytes + head, message.bytes, message.length);
-    memcpy(asked.bytes + head + message.length, root.bytes, root.length);
-    asked.length = head + message.length + root.length;
-    return packet_digest(digest, &asked) && memcmp(digest, k->nonce_request, HASH_LENGTH) == 0;
+    memcpy(head.root, root.bytes, root.length);
+    return packet_written(&asked, rc_write_nonce_request(asked.bytes, sizeof asked.bytes, head, message.bytes, message.length)) &&
+           packet_digest(digest, &asked) && memcmp(digest, k->nonce_request, HASH_LENGTH) == 0;
 }
 
 /* challenge times the Lagrange-weighted sum of this signer's secrets. */
@@ -168,19 +164,19 @@ static int share_of(scalar *z, const signer *s, const kept *k, const signing *wh
 
 /* The nonces are wiped before the share leaves: whatever happens next, they sign nothing else. */
 static reply sign(signer *s, kept *k, span whole, const rc_packet *header, sealed *answer) {
-    uint8_t keys[KEY_LENGTH * RC_KEY_LIMIT];
-    const packet_ids ids = {header->dkg_id, header->sign_id, header->sign_iter_id};
+    packet *to = &answer->packet;
     signing what;
     terms t;
     scalar z;
-    if (!follows(k, whole) || !read_signing(&what, s->group, whole, header)) return SILENT_OTHER;
+    if (!follows(k, whole, header) || !read_signing(&what, s->group, whole, header)) return SILENT_OTHER;
     if (!signing_terms(&t, s->group, &what) || !share_of(&z, s, k, &what, &t)) return SILENT_FAILED;
     k->signed_once = 1;
     scalar_wipe(&k->nonces[0]);
     scalar_wipe(&k->nonces[1]);
-    const span key_ids = {keys, member_keys(s->self, keys)};
-    if (!write_share_response(&answer->packet, s->self->id, ids, s->self->id, z.bytes, key_ids)) return SILENT_FAILED;
-    return seal_and_keep(&k->share, answer, s) ? REPLY_SHARE : SILENT_FAILED;
+    const int written = packet_written(
+        to, rc_write_signature_share_response(to->bytes, ANSWER_LIMIT, response_head(s, header), &s->self->id, 1, z.bytes, sizeof z.bytes,
+                                              &s->self->key_count, 1, s->self->keys, s->self->key_count));
+    return written && seal_and_keep(&k->share, answer, s) ? REPLY_SHARE : SILENT_FAILED;
 }
 
 static reply give_share(signer *s, const sealed *request, const rc_packet *header, sealed *answer) {

@@ -29,12 +29,15 @@ struct {
     rc_responses responses;
     rc_job_places job;
     rc_signer_ids ids;
+    rc_response_head response;
+    size_t key_count;
     uint16_t part;
 } given;
 
 static uint8_t state[RC_STATE_LENGTH], store[RC_STORE_LENGTH], out[RC_ANSWER_LENGTH], source[4096];
 static const uint8_t words[RC_MESSAGE_LIMIT + 1] = "payout 7";
 static uint8_t bytes[KEYS * NONCE_LENGTH]; /* made-up nonces, shares and roots */
+static uint32_t ones[KEYS + 1];            /* ids and counts of a response */
 rc_answer answer;
 rc_packet header;
 rc_part part;
@@ -71,6 +74,12 @@ static void write_dkg_signer(void) { written = rc_write_dkg_signer(OUT, 3, given
 static void write_dkg_coordinator(void) { written = rc_write_dkg_coordinator(OUT, given.dkg_id); }
 static void write_nonce_timeout(void) { written = rc_write_nonce_timeout(OUT, given.ids, given.ids); }
 static void write_insufficient_signers(void) { written = rc_write_insufficient_signers(OUT, given.ids); }
+static void write_nonce_response(void) {
+    written = rc_write_nonce_response(OUT, given.response, MESSAGE, ones, given.key_count, bytes, sizeof bytes);
+}
+static void write_share_response(void) {
+    written = rc_write_signature_share_response(OUT, given.response, ones, KEYS, bytes, Z_LENGTH * KEYS, ones, KEYS, ones, given.key_count);
+}
 
 typedef struct call {
     const char *name;
@@ -81,7 +90,7 @@ typedef struct call {
 } call;
 
 enum { COMMISSION, COORDINATOR_KEY, GROUP_KEY, RESULTS, START, PROCESS, PROCESS_MESSAGE, TIMEOUT, AGGREGATED, RESET, MOVE, IDLE, READ, PART, VERSION,
-       NONCE_REQUEST, SHARE_REQUEST, JOB, DKG_BEGIN, DKG_SIGNER, DKG_COORDINATOR, NONCE_TIMEOUT, INSUFFICIENT, CALLS };
+       NONCE_REQUEST, SHARE_REQUEST, JOB, DKG_BEGIN, DKG_SIGNER, DKG_COORDINATOR, NONCE_TIMEOUT, INSUFFICIENT, NONCE_RESPONSE, SHARE_RESPONSE, CALLS };
 
 static call calls[CALLS] = {
     [COMMISSION] = {"rc_commission", RC_STACK_COMMISSION, commission, 0, 0},
@@ -107,6 +116,8 @@ static call calls[CALLS] = {
     [DKG_COORDINATOR] = {"rc_write_dkg_coordinator", RC_STACK_PACKET, write_dkg_coordinator, 0, 0},
     [NONCE_TIMEOUT] = {"rc_write_nonce_timeout", RC_STACK_PACKET, write_nonce_timeout, 0, 0},
     [INSUFFICIENT] = {"rc_write_insufficient_signers", RC_STACK_PACKET, write_insufficient_signers, 0, 0},
+    [NONCE_RESPONSE] = {"rc_write_nonce_response", RC_STACK_PACKET, write_nonce_response, 0, 0},
+    [SHARE_RESPONSE] = {"rc_write_signature_share_response", RC_STACK_PACKET, write_share_response, 0, 0},
 };
 
 /* --- the small stack */
@@ -205,30 +216,42 @@ static void good(void) {
     }
 }
 
-static span keys_of(uint32_t signer) {
-    static uint8_t keys[KEYS * KEY_LENGTH];
-    for (uint32_t k = 0; k < KEYS; k++) put_number(keys + KEY_LENGTH * k, KEY_LENGTH, KEYS * signer + k);
-    return (span){keys, sizeof keys};
+static const uint32_t *keys_of(uint32_t signer) {
+    static uint32_t keys[KEYS];
+    for (uint32_t k = 0; k < KEYS; k++) keys[k] = KEYS * signer + k;
+    return keys;
 }
 
-static void give(const packet *p, int written_well) {
-    expect("a packet", written_well);
+static void give(packet *p, rc_written w) {
+    expect("a packet", packet_written(p, w));
     given.packet = span_of(p);
 }
 
+/* The ids of a request that a signer answers. */
+typedef struct request_ids {
+    uint64_t dkg, sign, iteration;
+} request_ids;
+
 /* The current request's ids are those of the last packet out. */
-static packet_ids current;
+static request_ids current;
 
-static void heed(void) { current = (packet_ids){DKG, number_at(out + 16, 8), number_at(out + 24, 8)}; }
+static void heed(void) { current = (request_ids){DKG, number_at(out + 16, 8), number_at(out + 24, 8)}; }
 
-static void nonces(uint32_t signer, packet_ids ids, span message) {
-    static packet p;
-    give(&p, write_nonce_response(&p, signer, ids, message, keys_of(signer), (span){bytes, sizeof bytes}));
+static rc_response_head response_head(uint32_t signer, request_ids ids) {
+    return (rc_response_head){ids.dkg, ids.sign, ids.iteration, signer, 0};
 }
 
-static void shares(uint32_t signer, packet_ids ids, span keys) {
+static void nonces(uint32_t signer, request_ids ids, span message) {
     static packet p;
-    give(&p, write_share_response(&p, signer, ids, signer, bytes, keys));
+    give(&p, rc_write_nonce_response(p.bytes, sizeof p.bytes, response_head(signer, ids), message.bytes, message.length, keys_of(signer), KEYS, bytes,
+                                     sizeof bytes));
+}
+
+/* One share, for all those keys. */
+static void shares(uint32_t signer, request_ids ids, const uint32_t *keys) {
+    static packet p;
+    const uint32_t count = KEYS;
+    give(&p, rc_write_signature_share_response(p.bytes, sizeof p.bytes, response_head(signer, ids), &signer, 1, bytes, Z_LENGTH, &count, 1, keys, KEYS));
 }
 
 static void ready(void) {
@@ -341,15 +364,15 @@ static void in_idle(int entry) {
     w = rc_write_dkg_begin(p.bytes, sizeof p.bytes, DKG + 1);
     given.packet = (span){p.bytes, (size_t)w.length};
     refuses(entry, RC_REFUSED_DKG_BEGIN);
-    nonces(NO_ID, (packet_ids){DKG, 1, 1}, no_message);
+    nonces(NO_ID, (request_ids){DKG, 1, 1}, no_message);
     refuses(entry, RC_REFUSED_SEAL);
-    nonces(1, (packet_ids){DKG, 1, 1}, no_message);
+    nonces(1, (request_ids){DKG, 1, 1}, no_message);
     takes(entry);
 }
 
 static void while_nonces_are_gathered(int entry) {
     started(RC_SCHNORR);
-    const packet_ids other[] = {{DKG + 1, current.sign, current.iteration}, {DKG, current.sign + 1, current.iteration}, {DKG, current.sign, 9}};
+    const request_ids other[] = {{DKG + 1, current.sign, current.iteration}, {DKG, current.sign + 1, current.iteration}, {DKG, current.sign, 9}};
     for (uint32_t i = 0; i < 3; i++) {
         nonces(1, other[i], given.message);
         refuses(entry, RC_REFUSED_DKG_ID + i);
@@ -372,9 +395,9 @@ static void while_nonces_are_gathered(int entry) {
 
 static void while_shares_are_gathered(int entry, int ok) {
     to_shares(entry);
-    shares(1, (packet_ids){DKG + 1, current.sign, current.iteration}, keys_of(1));
+    shares(1, (request_ids){DKG + 1, current.sign, current.iteration}, keys_of(1));
     answers(entry, RC_RESULT, RC_REFUSED_DKG_ID);
-    shares(1, (packet_ids){DKG, current.sign + 1, current.iteration}, keys_of(1));
+    shares(1, (request_ids){DKG, current.sign + 1, current.iteration}, keys_of(1));
     answers(entry, RC_RESULT, RC_REFUSED_SIGN_ID);
     shares(SIGNERS - 1, current, keys_of(SIGNERS - 1));
     takes(entry);
@@ -469,10 +492,29 @@ static void writes(void) {
     }
 }
 
+static void responses(void) {
+    good();
+    given.key_count = KEYS;
+    for (int which = NONCE_RESPONSE; which <= SHARE_RESPONSE; which++) {
+        given.out_length = which == NONCE_RESPONSE ? RC_NONCE_RESPONSE_LIMIT : RC_SHARE_RESPONSE_LIMIT;
+        make(which);
+        expect("the longest response fits", written.refusal == 0 && written.length == given.out_length);
+        given.out_length--;
+        make(which);
+        expect("a byte less", written.refusal == RC_REFUSED_BUFFER);
+        given.key_count++;
+        make(which);
+        expect("a key more", written.refusal == RC_REFUSED_LIMIT);
+        given.key_count--;
+    }
+}
+
 int main(void) {
     open_stack();
     memset(bytes, 2, sizeof bytes);
+    for (int i = 0; i <= KEYS; i++) ones[i] = 1;
     writes(); /* first, so that the first call of memcpy, where it is bound late, is on the smallest stack */
+    responses();
     for (int which = COORDINATOR_KEY; which <= MOVE; which++) asked_first(which);
     configurations();
     starts();

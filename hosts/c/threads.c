@@ -34,15 +34,17 @@ static rc_config configuration(void) {
 
 static void expect(buffers *d, rc_answer a, uint32_t class_) { d->failures += a.class_ != class_ || a.number != 0; }
 
-/* A signer answers the request in out, or a later one of the same ids. */
-static rc_answer respond(buffers *d, uint32_t signer, packet_ids ids, int share) {
+/* A signer answers the request in out, or a later one of the same round. */
+static rc_answer respond(buffers *d, uint32_t signer, uint64_t iteration, int share) {
     static const uint8_t words[] = "payout 7";
-    uint8_t bytes[NONCE_LENGTH], key[KEY_LENGTH];
+    const rc_response_head head = {DKG, 1, iteration, signer, 0};
+    const uint32_t key = signer + 1, one = 1;
+    uint8_t bytes[NONCE_LENGTH], *to = d->packet.bytes;
     memset(bytes, 2, sizeof bytes);
-    put_number(key, KEY_LENGTH, signer + 1);
-    const span keys = {key, sizeof key};
-    d->failures += share ? !write_share_response(&d->packet, signer, ids, signer, bytes, keys)
-                         : !write_nonce_response(&d->packet, signer, ids, (span){words, sizeof words}, keys, (span){bytes, sizeof bytes});
+    const rc_written w =
+        share ? rc_write_signature_share_response(to, PACKET_LIMIT, head, &signer, 1, bytes, Z_LENGTH, &one, 1, &key, 1)
+              : rc_write_nonce_response(to, PACKET_LIMIT, head, words, sizeof words, &key, 1, bytes, sizeof bytes);
+    d->failures += !packet_written(&d->packet, w);
     return rc_process_message(LENT, d->out, sizeof d->out, 0, 1, d->packet.bytes, d->packet.length);
 }
 
@@ -55,14 +57,13 @@ static void round_with_a_retry(buffers *d) {
     expect(d, rc_take_results(LENT, DKG, ended, SIGNERS), RC_NOTHING);
     expect(d, rc_start_signing_round(LENT, d->out, sizeof d->out, 0, words, sizeof words, RC_SCHNORR, NULL, 0, 0, 0), RC_PACKET);
     for (uint64_t iteration = 1; iteration <= 2; iteration++) {
-        const packet_ids ids = {DKG, 1, iteration};
         const uint32_t other = (uint32_t)iteration;
-        expect(d, respond(d, 0, ids, 0), RC_NOTHING);
-        expect(d, respond(d, other, ids, 0), RC_PACKET);
-        expect(d, respond(d, 0, ids, 1), RC_NOTHING);
+        expect(d, respond(d, 0, iteration, 0), RC_NOTHING);
+        expect(d, respond(d, other, iteration, 0), RC_PACKET);
+        expect(d, respond(d, 0, iteration, 1), RC_NOTHING);
         if (iteration == 1) expect(d, rc_process_timeout(LENT, d->out, sizeof d->out, LATE + 1), RC_PACKET);
     }
-    expect(d, respond(d, 2, (packet_ids){DKG, 1, 2}, 1), RC_JOB);
+    expect(d, respond(d, 2, 2, 1), RC_JOB);
     expect(d, rc_aggregated(LENT, 1), RC_RESULT);
 }
 

@@ -142,13 +142,13 @@ static void check_signatures(database *d, const group *g, findings *f) {
 
 /* Some nonces, in the name of a signer: good enough to be recorded. */
 static int probe_packet(packet *to, const member *m, uint64_t sign_id, uint64_t iteration) {
-    uint8_t nonces[NONCE_LENGTH], keys[KEY_LENGTH * RC_KEY_LIMIT];
-    const packet_ids ids = {HOST_DKG_ID, sign_id, iteration};
+    const rc_response_head head = {HOST_DKG_ID, sign_id, iteration, m->id, 0};
+    uint8_t nonces[NONCE_LENGTH];
     scalar secret;
     point p;
     if (!scalar_draw(&secret) || !point_of(&p, &secret) || !point_write(nonces, &p) || !point_write(nonces + POINT_LENGTH, &p)) return 0;
-    const span key_ids = {keys, member_keys(m, keys)};
-    return write_nonce_response(to, m->id, ids, (span){(const uint8_t *)"who?", 4}, key_ids, (span){nonces, sizeof nonces});
+    return packet_written(to, rc_write_nonce_response(to->bytes, PACKET_LIMIT, head, (const uint8_t *)"who?", 4, m->keys, m->key_count,
+                                                      nonces, sizeof nonces));
 }
 
 /* Who is left out stands in a nonce timeout's second list. So, on the copy: a round is begun, ONE signer that is not left out answers,

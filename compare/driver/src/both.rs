@@ -7,6 +7,7 @@ use crate::{
     faults::Fault,
     fire::Fire,
     library::{Library, Surplus},
+    responses::Responses,
     same,
     signature_type::SigType,
     states::IDLE,
@@ -24,6 +25,7 @@ fn differ(what: impl Into<String>) -> Result<(), Difference> {
 pub struct Both {
     pub fire: Fire,
     pub library: Library,
+    pub responses: Responses,
     fault: Option<Fault>,
     /// The buffers as they were before the call.
     state: Vec<u8>,
@@ -84,7 +86,8 @@ impl Both {
         let library = Library::new(surplus);
         let (state, store) = (library.state.bytes().to_vec(), library.store.bytes().to_vec());
         let out = library.out.bytes().to_vec();
-        Both { fire: Fire::new(), library, fault, state, store, out, held: (0, 0) }
+        let (fire, responses) = (Fire::new(), Responses::new(fault));
+        Both { fire, library, responses, fault, state, store, out, held: (0, 0) }
     }
 
     pub fn view(&self) -> View<'_> {
@@ -93,6 +96,9 @@ impl Both {
 
     /// Makes the call on both. Gives what fire.rs answered.
     pub fn step(&mut self, step: &Step) -> Result<Answer, Difference> {
+        if let Call::Process(i) | Call::ProcessMessage(i) = &step.call {
+            self.responses.look(&i.packet).map_err(Difference)?;
+        }
         let answer = self.fire.call(step.now, &step.call);
         if let Answer::Outside(number) = answer {
             self.outside(step, number)?;

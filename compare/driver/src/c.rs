@@ -6,6 +6,8 @@ pub const STORE_LENGTH: usize = 52224;
 pub const ANSWER_LENGTH: usize = 19232;
 pub const SIGNER_PLACES: usize = 11;
 pub const KEY_PLACES: usize = 17;
+pub const NONCE_RESPONSE_LIMIT: usize = 1432;
+pub const SHARE_RESPONSE_LIMIT: usize = 800;
 
 pub const NOTHING: u32 = 0;
 pub const PACKET: u32 = 1;
@@ -79,6 +81,24 @@ pub struct Packet {
 pub struct Part {
     pub at: u64,
     pub length: u64,
+}
+
+#[repr(C)]
+#[derive(Clone, Copy, Debug, Default, PartialEq, Eq)]
+pub struct Written {
+    pub refusal: u32,
+    pub reserved: u32,
+    pub length: u64,
+}
+
+#[repr(C)]
+#[derive(Clone, Copy, Debug, Default)]
+pub struct ResponseHead {
+    pub dkg_id: u64,
+    pub sign_id: u64,
+    pub sign_iter_id: u64,
+    pub signer_id: u32,
+    pub reserved: u32,
 }
 
 extern "C" {
@@ -186,4 +206,28 @@ extern "C" {
     ) -> Answer;
     pub fn rc_read_packet(packet: *const u8, packet_length: usize) -> Packet;
     pub fn rc_packet_part(packet: *const u8, packet_length: usize, i: u16) -> Part;
+    pub fn rc_write_nonce_response(
+        out: *mut u8,
+        out_length: usize,
+        head: ResponseHead,
+        message: *const u8,
+        message_length: usize,
+        key_ids: *const u32,
+        key_count: usize,
+        nonces: *const u8,
+        nonces_length: usize,
+    ) -> Written;
+    pub fn rc_write_signature_share_response(
+        out: *mut u8,
+        out_length: usize,
+        head: ResponseHead,
+        share_ids: *const u32,
+        share_count: usize,
+        z_i: *const u8,
+        z_i_length: usize,
+        key_counts: *const u32,
+        key_counts_length: usize,
+        key_ids: *const u32,
+        key_count: usize,
+    ) -> Written;
 }

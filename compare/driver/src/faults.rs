@@ -12,7 +12,7 @@ use crate::{
 pub struct Fault(pub u8);
 
 /// What each fault does, from 1 on.
-pub const FAULTS: [&str; 12] = [
+pub const FAULTS: [&str; 13] = [
     "the last byte of a share request (kind 3) is changed",
     "after a nonce request a malicious signer is forgotten",
     "in NonceGather nonce_start is one nanosecond later",
@@ -25,11 +25,17 @@ pub const FAULTS: [&str; 12] = [
     "a byte of a recorded share is changed in the store",
     "after 11 the sign id is one more",
     "refusal 18 is given the number 17",
+    "the last byte of a signer's packet that the library wrote is changed",
 ];
 
 impl Fault {
     pub fn new(number: u8) -> Option<Fault> {
         (1..=FAULTS.len() as u8).contains(&number).then_some(Fault(number))
+    }
+
+    /// Whether it is put into what a signer's writers wrote, and nowhere else.
+    pub fn is_in_responses(self) -> bool {
+        self.0 == 13
     }
 
     pub fn put(self, given: &mut c::Answer, library: &mut Library) {

@@ -7,6 +7,8 @@ const size_t rc_layout[] = {
     RC_ANSWER_LENGTH,
     RC_SIGNER_PLACES,
     RC_KEY_PLACES,
+    RC_NONCE_RESPONSE_LIMIT,
+    RC_SHARE_RESPONSE_LIMIT,
     sizeof(rc_answer),
     offsetof(rc_answer, mark),
     offsetof(rc_answer, length),
@@ -19,4 +21,8 @@ const size_t rc_layout[] = {
     sizeof(rc_packet),
     offsetof(rc_packet, sign_iter_id),
     sizeof(rc_part),
+    sizeof(rc_written),
+    offsetof(rc_written, length),
+    sizeof(rc_response_head),
+    offsetof(rc_response_head, signer_id),
 };

@@ -25,6 +25,7 @@ pub mod packet;
 pub mod parse;
 pub mod probes;
 pub mod reached;
+pub mod responses;
 pub mod rng;
 pub mod same;
 pub mod shrink;

@@ -1,4 +1,7 @@
-//! libroundcabinet.a behind 01's calls, with its three buffers.
+//! libroundcabinet.a behind 01's calls, with its three buffers; and its reader and a signer's
+//! writers, which need none.
+
+use wsts::net::{NonceResponse, SignatureShareResponse};
 
 use crate::{
     buffers::Buffer,
@@ -260,4 +263,57 @@ pub fn read_packet(packet: &[u8]) -> c::Packet {
 /// Where part `i` of a packet lies.
 pub fn packet_part(packet: &[u8], i: u16) -> c::Part {
     unsafe { c::rc_packet_part(packet.as_ptr(), packet.len(), i) }
+}
+
+/// Who responds to which request; what is reserved is not looked at.
+fn response_head([dkg_id, sign_id, sign_iter_id]: [u64; 3], signer_id: u32) -> c::ResponseHead {
+    c::ResponseHead { dkg_id, sign_id, sign_iter_id, signer_id, reserved: JUNK }
+}
+
+/// A signer's packet of kind 2, to the front of `out`.
+pub fn write_nonce_response(out: &mut [u8], m: &NonceResponse) -> c::Written {
+    let head = response_head([m.dkg_id, m.sign_id, m.sign_iter_id], m.signer_id);
+    let mut nonces = Vec::with_capacity(66 * m.nonces.len());
+    for nonce in &m.nonces {
+        nonces.extend_from_slice(&nonce.D.0);
+        nonces.extend_from_slice(&nonce.E.0);
+    }
+    unsafe {
+        c::rc_write_nonce_response(
+            out.as_mut_ptr(),
+            out.len(),
+            head,
+            m.message.as_ptr(),
+            m.message.len(),
+            m.key_ids.as_ptr(),
+            m.key_ids.len(),
+            nonces.as_ptr(),
+            nonces.len(),
+        )
+    }
+}
+
+/// A signer's packet of kind 4, to the front of `out`.
+pub fn write_share_response(out: &mut [u8], m: &SignatureShareResponse) -> c::Written {
+    let head = response_head([m.dkg_id, m.sign_id, m.sign_iter_id], m.signer_id);
+    let shares = &m.signature_shares[..];
+    let ids: Vec<u32> = shares.iter().map(|s| s.id).collect();
+    let z_i: Vec<u8> = shares.iter().flat_map(|s| s.z_i.0).collect();
+    let key_counts: Vec<u32> = shares.iter().map(|s| s.key_ids.len() as u32).collect();
+    let key_ids: Vec<u32> = shares.iter().flat_map(|s| &s.key_ids).copied().collect();
+    unsafe {
+        c::rc_write_signature_share_response(
+            out.as_mut_ptr(),
+            out.len(),
+            head,
+            ids.as_ptr(),
+            ids.len(),
+            z_i.as_ptr(),
+            z_i.len(),
+            key_counts.as_ptr(),
+            key_counts.len(),
+            key_ids.as_ptr(),
+            key_ids.len(),
+        )
+    }
 }

@@ -74,7 +74,7 @@ fn the_clock_follows_the_reading() {
 }
 
 extern "C" {
-    static rc_layout: [usize; 17];
+    static rc_layout: [usize; 23];
 }
 
 /// c.rs lays out what the header does.
@@ -87,6 +87,8 @@ fn header_and_declarations_agree() {
         c::ANSWER_LENGTH,
         c::SIGNER_PLACES,
         c::KEY_PLACES,
+        c::NONCE_RESPONSE_LIMIT,
+        c::SHARE_RESPONSE_LIMIT,
         size_of::<c::Answer>(),
         offset_of!(c::Answer, mark),
         offset_of!(c::Answer, length),
@@ -99,6 +101,10 @@ fn header_and_declarations_agree() {
         size_of::<c::Packet>(),
         offset_of!(c::Packet, sign_iter_id),
         size_of::<c::Part>(),
+        size_of::<c::Written>(),
+        offset_of!(c::Written, length),
+        size_of::<c::ResponseHead>(),
+        offset_of!(c::ResponseHead, signer_id),
     ];
     // SAFETY: layout.c defines it so.
     assert_eq!(declared, unsafe { rc_layout });

@@ -63,7 +63,7 @@ fn commissioned() -> Result<Coordinator, Refusal> {
 fn nonces(c: &mut Coordinator, clock: u64, request: &NonceRequest, i: usize) -> Result<Option<ShareRequest>, Refusal> {
     let (id, keys) = SIGNERS[i];
     let nonces = vec![Nonce { d: [2; 33], e: [3; 33] }; keys.len()];
-    let answer = c.process(clock, Verdict::Good, &signer::answer(request, id, keys, &nonces))?;
+    let answer = c.process(clock, Verdict::Good, &signer::answer(request, id, keys, &nonces)?)?;
     println!("clock {clock}: signer {id} sends nonces for {}", list(keys));
     let Some(packet) = answer.packet() else {
         println!("  {answer:?}");
@@ -81,7 +81,7 @@ fn nonces(c: &mut Coordinator, clock: u64, request: &NonceRequest, i: usize) -> 
 fn shares(c: &mut Coordinator, clock: u64, request: &ShareRequest, i: usize) -> Result<(), Refusal> {
     let (id, keys) = SIGNERS[i];
     let shares: Vec<Share> = keys.iter().map(|key| Share { id: key.0, z_i: [9; 32], key_ids: vec![*key] }).collect();
-    let answer = c.process(clock, Verdict::Good, &signer::share(request, id, &shares))?;
+    let answer = c.process(clock, Verdict::Good, &signer::share(request, id, &shares)?)?;
     println!("clock {clock}: signer {id} sends shares for {}", list(keys));
     match answer {
         Answer::Job { packet, whole } => {

@@ -17,7 +17,7 @@ fn main() -> Result<(), Refusal> {
     let mut answer = Answer::Nothing;
     for i in 0..2 {
         let nonce = Nonce { d: [2; 33], e: [2; 33] };
-        let response = signer::answer(&request, SignerId(i), &[KeyId(i + 1)], &[nonce]);
+        let response = signer::answer(&request, SignerId(i), &[KeyId(i + 1)], &[nonce])?;
         answer = coordinator.process(1, Verdict::Good, &response)?;
     }
     let packet = answer.packet().expect("both have answered").to_vec();
@@ -25,7 +25,7 @@ fn main() -> Result<(), Refusal> {
     let request = ShareRequest::read(&packet)?;
     for i in 0..2 {
         let share = Share { id: i, z_i: [2; 32], key_ids: vec![KeyId(i + 1)] };
-        answer = coordinator.process(2, Verdict::Good, &signer::share(&request, SignerId(i), &[share]))?;
+        answer = coordinator.process(2, Verdict::Good, &signer::share(&request, SignerId(i), &[share])?)?;
     }
     let Answer::Job { packet, whole } = answer else { panic!("both have shared") };
     println!("aggregate {} shares", Job::read(&packet)?.shares.len());

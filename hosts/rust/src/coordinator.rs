@@ -47,22 +47,22 @@ pub enum Verdict {
 /// let respond = |request: &NonceRequest, i| signer::answer(request, SignerId(i), &[KeyId(i + 1)], &[nonce]);
 ///
 /// let request = NonceRequest::read(&coordinator.start_signing_round(100, b"pay", SignatureType::Frost, None)?)?;
-/// coordinator.process(101, Verdict::Good, &respond(&request, 0))?;
-/// let sent = coordinator.process(102, Verdict::Good, &respond(&request, 1))?;
+/// coordinator.process(101, Verdict::Good, &respond(&request, 0)?)?;
+/// let sent = coordinator.process(102, Verdict::Good, &respond(&request, 1)?)?;
 /// let request = ShareRequest::read(sent.packet().expect("two keys are enough"))?;
 ///
 /// // 0 shares, 1 does not. 112 is ten nanoseconds after the request, and 113 is more.
 /// let share = Share { id: 1, z_i: [9; 32], key_ids: vec![KeyId(1)] };
-/// coordinator.process(103, Verdict::Good, &signer::share(&request, SignerId(0), &[share]))?;
+/// coordinator.process(103, Verdict::Good, &signer::share(&request, SignerId(0), &[share])?)?;
 /// assert_eq!(coordinator.process_timeout(112)?, Answer::Nothing);
 /// let retry = coordinator.process_timeout(113)?;
 /// let request = NonceRequest::read(retry.packet().expect("two keys are left"))?;
 /// assert_eq!((request.ids.sign_id, request.ids.iteration), (1, 2));
 ///
 /// // 1 is heard no more; 0 and 2 go on without it.
-/// assert_eq!(coordinator.process(114, Verdict::Good, &respond(&request, 1))?, Answer::Nothing);
-/// assert_eq!(coordinator.process(115, Verdict::Good, &respond(&request, 2))?, Answer::Nothing);
-/// assert!(coordinator.process(116, Verdict::Good, &respond(&request, 0))?.packet().is_some());
+/// assert_eq!(coordinator.process(114, Verdict::Good, &respond(&request, 1)?)?, Answer::Nothing);
+/// assert_eq!(coordinator.process(115, Verdict::Good, &respond(&request, 2)?)?, Answer::Nothing);
+/// assert!(coordinator.process(116, Verdict::Good, &respond(&request, 0)?)?.packet().is_some());
 ///
 /// // Both silent now: no key is left.
 /// let malicious = vec![SignerId(0), SignerId(1), SignerId(2)];

@@ -164,6 +164,16 @@ pub(crate) struct RcJobPlaces {
     pub(crate) count: u64,
 }
 
+#[repr(C)]
+#[derive(Clone, Copy, Debug, Default, PartialEq, Eq)]
+pub(crate) struct RcResponseHead {
+    pub(crate) dkg_id: u64,
+    pub(crate) sign_id: u64,
+    pub(crate) sign_iter_id: u64,
+    pub(crate) signer_id: u32,
+    pub(crate) reserved: u32,
+}
+
 #[rustfmt::skip] // in the header's order, a buffer with its length
 extern "C" {
     fn rc_version() -> u32;
@@ -197,6 +207,11 @@ extern "C" {
     fn rc_write_dkg_coordinator(out: *mut u8, out_length: usize, dkg_id: u64) -> RcWritten;
     fn rc_write_nonce_timeout(out: *mut u8, out_length: usize, waiters: RcSignerIds, malicious: RcSignerIds) -> RcWritten;
     fn rc_write_insufficient_signers(out: *mut u8, out_length: usize, malicious: RcSignerIds) -> RcWritten;
+    fn rc_write_nonce_response(out: *mut u8, out_length: usize, head: RcResponseHead, message: *const u8, message_length: usize,
+                               key_ids: *const u32, key_count: usize, nonces: *const u8, nonces_length: usize) -> RcWritten;
+    fn rc_write_signature_share_response(out: *mut u8, out_length: usize, head: RcResponseHead, share_ids: *const u32,
+                                         share_count: usize, z_i: *const u8, z_i_length: usize, key_counts: *const u32,
+                                         key_counts_length: usize, key_ids: *const u32, key_count: usize) -> RcWritten;
 }
 
 pub(crate) fn version() -> u32 {
@@ -426,4 +441,55 @@ pub(crate) fn write_nonce_timeout(out: &mut [u8], waiters: RcSignerIds, maliciou
 pub(crate) fn write_insufficient_signers(out: &mut [u8], malicious: RcSignerIds) -> RcWritten {
     // SAFETY: `out` is written; the list is a copy.
     unsafe { rc_write_insufficient_signers(out.as_mut_ptr(), out.len(), malicious) }
+}
+
+pub(crate) fn write_nonce_response(
+    out: &mut [u8],
+    head: RcResponseHead,
+    message: &[u8],
+    key_ids: &[u32],
+    nonces: &[u8],
+) -> RcWritten {
+    // SAFETY: `out` is written; message, key ids (counted in entries of four bytes) and nonces are read; the head is a copy.
+    unsafe {
+        rc_write_nonce_response(
+            out.as_mut_ptr(),
+            out.len(),
+            head,
+            message.as_ptr(),
+            message.len(),
+            key_ids.as_ptr(),
+            key_ids.len(),
+            nonces.as_ptr(),
+            nonces.len(),
+        )
+    }
+}
+
+/// The shares of a response, list by list.
+pub(crate) struct Shares<'a> {
+    pub(crate) ids: &'a [u32],
+    pub(crate) z_i: &'a [u8],
+    pub(crate) key_counts: &'a [u32],
+    pub(crate) key_ids: &'a [u32],
+}
+
+pub(crate) fn write_signature_share_response(out: &mut [u8], head: RcResponseHead, s: &Shares<'_>) -> RcWritten {
+    // SAFETY: `out` is written; the lists are read, and those of numbers are counted in entries of four bytes; the head is a copy.
+    // The library asks whether the lists agree.
+    unsafe {
+        rc_write_signature_share_response(
+            out.as_mut_ptr(),
+            out.len(),
+            head,
+            s.ids.as_ptr(),
+            s.ids.len(),
+            s.z_i.as_ptr(),
+            s.z_i.len(),
+            s.key_counts.as_ptr(),
+            s.key_counts.len(),
+            s.key_ids.as_ptr(),
+            s.key_ids.len(),
+        )
+    }
 }

@@ -1,19 +1,18 @@
-//! A packet's frame by 01's layout, in safe Rust: for what the library's reader does not take, and for writing.
+//! A packet's frame by 01's layout, read in safe Rust: for what the library's reader does not take, and no signer sends.
 //!
 //! 32 bytes of header (kind, type, the number of parts in 2 bytes, the signer in 4, three ids in 8 each); for each part its offset and its
 //! length in 4; then the parts, one behind the other, to the packet's end.
 
-use crate::ids::{RoundIds, SignerId};
+use crate::ids::RoundIds;
 
 const HEADER: usize = 32;
 const PAIR: usize = 8;
 
-pub(crate) struct Frame<P> {
+pub(crate) struct Frame<'a> {
     pub(crate) kind: u8,
     pub(crate) type_byte: u8,
-    pub(crate) signer: SignerId,
     pub(crate) ids: RoundIds,
-    pub(crate) parts: Vec<P>,
+    pub(crate) parts: Vec<&'a [u8]>,
 }
 
 fn u32_at(bytes: &[u8], at: usize) -> Option<u32> {
@@ -40,54 +39,29 @@ fn parts_of(bytes: &[u8], count: usize) -> Option<Vec<&[u8]>> {
     (at == bytes.len()).then_some(parts)
 }
 
-pub(crate) fn read(bytes: &[u8]) -> Option<Frame<&[u8]>> {
+pub(crate) fn read(bytes: &[u8]) -> Option<Frame<'_>> {
     let count = u16::from_le_bytes(*bytes.get(2..)?.first_chunk()?);
     let ids = RoundIds { dkg_id: u64_at(bytes, 8)?, sign_id: u64_at(bytes, 16)?, iteration: u64_at(bytes, 24)? };
     let parts = parts_of(bytes, count.into())?;
-    Some(Frame { kind: bytes[0], type_byte: bytes[1], signer: SignerId(u32_at(bytes, 4)?), ids, parts })
-}
-
-/// # Panics
-/// Where there are more parts than two bytes can count, or an offset does not fit four.
-pub(crate) fn write(frame: &Frame<Vec<u8>>) -> Vec<u8> {
-    let count = u16::try_from(frame.parts.len()).expect("a packet has at most 65,535 parts");
-    let mut packet = vec![frame.kind, frame.type_byte];
-    packet.extend(count.to_le_bytes());
-    packet.extend(frame.signer.0.to_le_bytes());
-    for id in [frame.ids.dkg_id, frame.ids.sign_id, frame.ids.iteration] {
-        packet.extend(id.to_le_bytes());
-    }
-    let mut at = HEADER + PAIR * frame.parts.len();
-    for part in &frame.parts {
-        for number in [at, part.len()] {
-            packet.extend(u32::try_from(number).expect("a packet has less than 4 GiB").to_le_bytes());
-        }
-        at += part.len();
-    }
-    frame.parts.iter().for_each(|part| packet.extend(part));
-    packet
+    Some(Frame { kind: bytes[0], type_byte: bytes[1], ids, parts })
 }
 
 #[cfg(test)]
 mod tests {
     use super::*;
 
+    /// Kind 32, type 3, three parts: two bytes, none and one.
     fn sample() -> Vec<u8> {
-        let ids = RoundIds { dkg_id: 7, sign_id: 1 << 40, iteration: u64::MAX };
-        write(&Frame {
-            kind: 32,
-            type_byte: 3,
-            signer: SignerId(0x01020304),
-            ids,
-            parts: vec![vec![1, 2], vec![], vec![3]],
-        })
+        let ids = [7, 1 << 40, u64::MAX].map(u64::to_le_bytes).concat();
+        let pairs = [56, 2, 58, 0, 58, 1].map(u32::to_le_bytes).concat();
+        [&[32, 3, 3, 0, 0, 0, 0, 0][..], &ids, &pairs, &[1, 2, 3]].concat()
     }
 
     #[test]
-    fn what_is_written_is_read() {
+    fn each_field_is_read() {
         let packet = sample();
         let frame = read(&packet).unwrap();
-        assert_eq!((frame.kind, frame.type_byte, frame.signer), (32, 3, SignerId(0x01020304)));
+        assert_eq!((frame.kind, frame.type_byte), (32, 3));
         assert_eq!((frame.ids.dkg_id, frame.ids.sign_id, frame.ids.iteration), (7, 1 << 40, u64::MAX));
         assert_eq!(frame.parts, [&[1, 2][..], &[], &[3]]);
     }

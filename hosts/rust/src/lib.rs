@@ -6,7 +6,7 @@
 //! A [`Coordinator`] is commissioned with a [`Config`], told which keys are held and who ended key generation, and then starts rounds. Each
 //! call answers an [`Answer`] or is refused with a [`Refusal`]. The host does what the library can't: it judges and makes seals, sends
 //! packets, reads the clock, computes on the curve, and keeps state and store safe before it sends anything. Packets of a host's own are
-//! written by [`write`](mod@write).
+//! written by [`write`](mod@write), those of signers by [`signer`].
 //!
 //! Two duties more are the host's, because neither 01 nor fire.rs has them, and packets can be played back or come late:
 //!
@@ -38,8 +38,8 @@
 //!
 //! // The signers answer; nonces and shares are made up here, the library looks at no curve.
 //! let nonce = Nonce { d: [2; 33], e: [3; 33] };
-//! let from_0 = signer::answer(&request, SignerId(0), &[KeyId(1)], &[nonce]);
-//! let from_1 = signer::answer(&request, SignerId(1), &[KeyId(2), KeyId(3)], &[nonce, nonce]);
+//! let from_0 = signer::answer(&request, SignerId(0), &[KeyId(1)], &[nonce])?;
+//! let from_1 = signer::answer(&request, SignerId(1), &[KeyId(2), KeyId(3)], &[nonce, nonce])?;
 //! assert_eq!(coordinator.process(1_001, Verdict::Good, &from_0)?, Answer::Nothing);
 //! let Answer::Packet(packet) = coordinator.process(1_002, Verdict::Good, &from_1)? else {
 //!     panic!("three keys have answered");
@@ -49,8 +49,8 @@
 //! let request = ShareRequest::read(&packet)?;
 //! assert_eq!(request.responses.len(), 2);
 //! let share = |key| Share { id: key, z_i: [9; 32], key_ids: vec![KeyId(key)] };
-//! let from_1 = signer::share(&request, SignerId(1), &[share(2), share(3)]);
-//! let from_0 = signer::share(&request, SignerId(0), &[share(1)]);
+//! let from_1 = signer::share(&request, SignerId(1), &[share(2), share(3)])?;
+//! let from_0 = signer::share(&request, SignerId(0), &[share(1)])?;
 //! assert_eq!(coordinator.process(1_003, Verdict::Good, &from_1)?, Answer::Nothing);
 //! let Answer::Job { packet, whole: true } = coordinator.process(1_004, Verdict::Good, &from_0)? else {
 //!     panic!("all shares are there");
@@ -95,7 +95,8 @@ pub use contents::{Contents, NonceRequest, NonceResponse, ShareRequest, ShareRes
 pub use coordinator::{Coordinator, Verdict};
 pub use ids::{KeyId, RoundIds, SignerId};
 pub use limits::{
-    version, ANSWER_LENGTH, KEY_LIMIT, MESSAGE_LIMIT, SIGNER_LIMIT, STATE_LENGTH, STATE_VERSION, STORE_LENGTH,
+    version, ANSWER_LENGTH, KEY_LIMIT, MESSAGE_LIMIT, NONCE_RESPONSE_LIMIT, SHARE_RESPONSE_LIMIT, SIGNER_LIMIT,
+    STATE_LENGTH, STATE_VERSION, STORE_LENGTH,
 };
 pub use lists::{Nonce, Share};
 pub use outgoing::{Job, Outgoing};

@@ -12,13 +12,17 @@ pub const MESSAGE_LIMIT: usize = 256;
 pub const SIGNER_LIMIT: usize = 10;
 /// Keys of the largest key set.
 pub const KEY_LIMIT: usize = 16;
+/// Bytes of the longest packet of kind 2.
+pub const NONCE_RESPONSE_LIMIT: usize = 1432;
+/// Bytes of the longest packet of kind 4.
+pub const SHARE_RESPONSE_LIMIT: usize = 800;
 /// The version of a saved state, in bytes 8 to 15 of it. A state of another version is refused with 4.
 pub const STATE_VERSION: u32 = 1;
 
 /// The version of the archive that is linked: 65536 for each major, 256 for each minor, 1 for each patch number.
 ///
 /// ```
-/// assert_eq!(roundcabinet::version(), 256); // 0.1.0
+/// assert_eq!(roundcabinet::version(), 512); // 0.2.0
 /// ```
 pub fn version() -> u32 {
     crate::ffi::version()

@@ -66,7 +66,3 @@ pub(crate) fn nonce_bytes(nonces: &[Nonce]) -> Vec<u8> {
 pub(crate) fn share_front(share: &Share) -> Vec<u8> {
     [&share.id.to_le_bytes()[..], &share.z_i].concat()
 }
-
-pub(crate) fn share_bytes(share: &Share) -> Vec<u8> {
-    [share_front(share), key_bytes(&share.key_ids)].concat()
-}

@@ -30,6 +30,7 @@ fn refusals() -> Vec<(&'static str, Refusal)> {
         ("AGGREGATION", Refusal::Aggregation),
         ("NOT_IDLE", Refusal::NotIdle),
         ("ENDED", Refusal::Ended),
+        ("BUFFER", Refusal::Buffer),
     ]
 }
 
@@ -91,5 +92,5 @@ fn each_refusal_has_words_of_its_own() {
     assert_eq!(words[21], "refused with 22: the signer shared for other keys than its own (signer 1)");
     words.sort();
     words.dedup();
-    assert_eq!(words.len(), 25);
+    assert_eq!(words.len(), 26);
 }

@@ -62,7 +62,7 @@ impl Outgoing {
         frame::read(bytes).and_then(|frame| Outgoing::of(&frame)).ok_or(Refusal::Layout)
     }
 
-    fn of(frame: &Frame<&[u8]>) -> Option<Outgoing> {
+    fn of(frame: &Frame<'_>) -> Option<Outgoing> {
         match (frame.kind, &frame.parts[..]) {
             (32, [message, root, keys, nonces, shares @ ..]) => Some(Outgoing::Job(Job {
                 ids: frame.ids,

@@ -86,9 +86,9 @@ pub struct Header {
 /// A packet that the library has read: questions 8 and 9 are answered yes. Its contents, typed: [`Contents`](crate::Contents).
 ///
 /// ```
-/// use roundcabinet::{signer, Kind, NonceRequest, Packet, Refusal, RoundIds, SignatureType};
+/// use roundcabinet::{write, Kind, Packet, Refusal, RoundIds, SignatureType};
 /// let ids = RoundIds { dkg_id: 7, sign_id: 1, iteration: 1 };
-/// let bytes = signer::nonce_request(&NonceRequest { ids, signature_type: SignatureType::Schnorr, message: b"pay".to_vec() });
+/// let bytes = write::nonce_request(write::Head { ids, signature_type: SignatureType::Schnorr, message: b"pay" })?;
 ///
 /// let packet = Packet::read(&bytes)?;
 /// assert_eq!((packet.kind(), packet.header().ids), (Kind::NonceRequest, ids));
@@ -108,7 +108,7 @@ impl<'a> Packet<'a> {
     pub fn read(bytes: &'a [u8]) -> Result<Packet<'a>, Refusal> {
         let found = ffi::read_packet(bytes);
         if found.refusal != 0 {
-            return Err(Refusal::before_the_call(found.refusal).unwrap_or(Refusal::Layout));
+            return Err(Refusal::of_number(found.refusal).unwrap_or(Refusal::Layout));
         }
         Ok(Packet { bytes, header: header(bytes, found).ok_or(Refusal::Layout)? })
     }

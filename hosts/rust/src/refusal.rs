@@ -1,4 +1,4 @@
-//! Refusals, with document 01's numbers.
+//! Refusals, with document 01's numbers; 26 is asked by a signer's writers alone.
 
 use crate::ffi::RcAnswer;
 use crate::ids::SignerId;
@@ -81,6 +81,8 @@ pub enum Refusal {
     NotIdle,
     /// 25: more than 10 ended signers, or one that is not configured.
     Ended,
+    /// 26: the buffer that was lent to a signer's writer is shorter than the packet.
+    Buffer,
     /// An answer that this crate does not know: crate and archive do not fit together.
     Other {
         /// The answer's class.
@@ -91,7 +93,7 @@ pub enum Refusal {
 }
 
 impl Refusal {
-    /// Document 01's number.
+    /// Document 01's number, or 26.
     pub fn number(self) -> u32 {
         match self {
             Refusal::Signers => 1,
@@ -119,6 +121,7 @@ impl Refusal {
             Refusal::Aggregation => 23,
             Refusal::NotIdle => 24,
             Refusal::Ended => 25,
+            Refusal::Buffer => 26,
             Refusal::Other { number, .. } => number,
         }
     }
@@ -144,12 +147,12 @@ impl Refusal {
             23 => Refusal::Aggregation,
             24 => Refusal::NotIdle,
             25 => Refusal::Ended,
-            number => Refusal::before_the_call(number).unwrap_or(Refusal::unknown(a)),
+            number => Refusal::of_number(number).unwrap_or(Refusal::unknown(a)),
         }
     }
 
-    /// 1 to 9, which are asked before a call's own work.
-    pub(crate) fn before_the_call(number: u32) -> Option<Refusal> {
+    /// 1 to 9, which are asked before a call's own work, and 26: readers and writers give no others.
+    pub(crate) fn of_number(number: u32) -> Option<Refusal> {
         match number {
             1 => Some(Refusal::Signers),
             2 => Some(Refusal::Keys),
@@ -160,6 +163,7 @@ impl Refusal {
             7 => Some(Refusal::Room),
             8 => Some(Refusal::Layout),
             9 => Some(Refusal::Limit),
+            26 => Some(Refusal::Buffer),
             _ => None,
         }
     }
@@ -197,6 +201,7 @@ impl Refusal {
             Refusal::Aggregation => "the aggregator failed",
             Refusal::NotIdle => "results of key generation are taken in Idle alone",
             Refusal::Ended => "more than 10 ended signers, or one that is not configured",
+            Refusal::Buffer => "the lent buffer is shorter than the packet",
             Refusal::Other { .. } => "this crate does not know the answer; crate and archive do not fit together",
         }
     }

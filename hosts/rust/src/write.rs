@@ -2,8 +2,8 @@
 //! themselves, and need none of this.
 //!
 //! Each function gives the packet, or is refused with 9 where a message or a list is over 01's limits. The questions that are asked of
-//! a buffer (7) and of a type's number (8) are always answered yes here. Signers' packets (kinds 2 and 4) have no writer in the
-//! library; [`signer`](crate::signer) has one for tests and examples.
+//! a buffer (7) and of a type's number (8) are always answered yes here. What a signer sends (kinds 2 and 4) is written by
+//! [`signer`](crate::signer).
 //!
 //! ```
 //! use roundcabinet::{write, Contents, NonceRequest, Refusal, RoundIds, SignatureType, SignerId};
@@ -175,13 +175,17 @@ pub fn insufficient_signers(malicious: &[SignerId]) -> Result<Vec<u8>, Refusal> 
 /// What a writer leaves in a buffer that is long enough for any packet.
 fn written(write: impl FnOnce(&mut [u8]) -> RcWritten) -> Result<Vec<u8>, Refusal> {
     let mut out = vec![0; ANSWER_LENGTH];
-    let RcWritten { refusal, length, .. } = write(&mut out);
-    if refusal != 0 {
-        let other = Refusal::Other { class: ffi::ERROR, number: refusal };
-        return Err(Refusal::before_the_call(refusal).unwrap_or(other));
-    }
-    out.truncate(length as usize); // no packet is longer than the buffer
+    let length = length(write(&mut out))?;
+    out.truncate(length);
     Ok(out)
+}
+
+/// The length of the packet that a writer says it wrote, which is no longer than the buffer.
+pub(crate) fn length(written: RcWritten) -> Result<usize, Refusal> {
+    match written.refusal {
+        0 => Ok(written.length as usize),
+        number => Err(Refusal::of_number(number).unwrap_or(Refusal::Other { class: ffi::ERROR, number })),
+    }
 }
 
 impl Head<'_> {

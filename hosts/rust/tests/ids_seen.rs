@@ -30,7 +30,7 @@ fn nonces(signer: (u32, &[u32])) -> Vec<Nonce> {
 }
 
 fn answer(request: &NonceRequest, signer: (u32, &[u32])) -> Vec<u8> {
-    signer::answer(request, SignerId(signer.0), &keys(signer.1), &nonces(signer))
+    signer::answer(request, SignerId(signer.0), &keys(signer.1), &nonces(signer)).unwrap()
 }
 
 /// Ids that no other number has.
@@ -75,7 +75,7 @@ fn a_job_has_lists_and_shares_by_signer() {
     let share = |key: u32| Share { id: !key, z_i: std::array::from_fn(|i| key as u8 ^ i as u8), key_ids: keys(&[key]) };
     let shared = |(id, set): (u32, &[u32])| {
         let shares: Vec<Share> = set.iter().copied().map(share).collect();
-        signer::share(&sent, SignerId(id), &shares)
+        signer::share(&sent, SignerId(id), &shares).unwrap()
     };
     assert_eq!(c.process(1003, GOOD, &shared(HIGH)), Ok(Answer::Nothing));
     assert_eq!(c.process(1003, GOOD, &shared(LOW)), Ok(Answer::Nothing));

@@ -27,7 +27,10 @@ fn a_message_of_256_and_of_257() {
     let packet = c.start_signing_round(100, &longest, SignatureType::Frost, None).unwrap();
     let request = NonceRequest::read(&packet).unwrap();
     assert_eq!((request.message.len(), request.ids.sign_id), (256, 1), "the refused start changed nothing");
-    assert_eq!(c.process(101, GOOD, &answers_message(&request, 0, &longer)), Err(Refusal::Limit));
+    let signer = SignerId(0);
+    let too_long =
+        NonceResponse { ids: request.ids, signer, message: longer.to_vec(), key_ids: keys(&[1]), nonces: vec![NONCE] };
+    assert_eq!(c.process(101, GOOD, &by_hand::nonce_response(&too_long)), Err(Refusal::Limit));
     assert_eq!(c.process(101, GOOD, &answers(&request, 0)), Ok(Answer::Nothing));
     assert!(c.process(101, GOOD, &answers(&request, 1)).unwrap().packet().is_some());
 }
@@ -75,13 +78,13 @@ fn lists_of_16_and_of_17_in_a_packet() {
     let ids = RoundIds::default();
     let response = |keys, nonces| {
         let (key_ids, nonces) = (vec![KeyId(1); keys], vec![NONCE; nonces]);
-        read(signer::nonce_response(&NonceResponse { ids, signer: SignerId(0), message: vec![], key_ids, nonces }))
+        read(by_hand::nonce_response(&NonceResponse { ids, signer: SignerId(0), message: vec![], key_ids, nonces }))
     };
     assert_eq!(response(16, 16), Ok(3));
     assert_eq!(response(17, 16), Err(Refusal::Limit));
     assert_eq!(response(16, 17), Err(Refusal::Limit));
 
-    let with = |shares: Vec<Share>| read(signer::share_response(&ShareResponse { ids, signer: SignerId(0), shares }));
+    let with = |shares: Vec<Share>| read(by_hand::share_response(&ShareResponse { ids, signer: SignerId(0), shares }));
     let of = |keys| Share { id: 1, z_i: [1; 32], key_ids: vec![KeyId(1); keys] };
     assert_eq!(with(vec![of(1); 16]), Ok(16));
     assert_eq!(with(vec![of(0); 17]), Err(Refusal::Limit));
@@ -94,7 +97,7 @@ fn ten_nested_responses_and_eleven() {
     let (_, request) = to_shares(&worked());
     let nested = |count| {
         let responses = vec![request.responses[0].clone(); count];
-        Packet::read(&signer::share_request(&ShareRequest { responses, ..request.clone() })).map(|_| ())
+        Packet::read(&by_hand::share_request(&ShareRequest { responses, ..request.clone() })).map(|_| ())
     };
     assert_eq!(nested(0), Ok(()));
     assert_eq!(nested(10), Ok(()));

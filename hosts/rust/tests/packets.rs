@@ -1,4 +1,4 @@
-//! What this crate writes the library reads, field for field; and no other bytes pass for it.
+//! What is laid out as 01 says the library reads, field for field; and no other bytes pass for it.
 
 mod common;
 use common::*;
@@ -25,7 +25,7 @@ fn kind_1_of_each_type() {
     for signature_type in TYPES {
         for message in [&b""[..], b"m", &[0xff; 256]] {
             let request = NonceRequest { ids: IDS, signature_type, message: message.to_vec() };
-            let packet = signer::nonce_request(&request);
+            let packet = by_hand::nonce_request(&request);
             assert_eq!(Packet::read(&packet).unwrap().header().signature_type, signature_type);
             assert_eq!(NonceRequest::read(&packet), Ok(request));
         }
@@ -36,7 +36,7 @@ fn kind_1_of_each_type() {
 fn kind_2_with_any_lists() {
     for count in [0, 1, 16] {
         let response = response(4, b"pay", count);
-        let packet = signer::nonce_response(&response);
+        let packet = by_hand::nonce_response(&response);
         assert_eq!(NonceResponse::read(&packet), Ok(response));
     }
 }
@@ -46,7 +46,7 @@ fn kind_3_with_responses_of_their_own() {
     for signature_type in TYPES {
         let responses = vec![response(9, b"x", 3), response(2, b"", 0), response(9, b"x", 16)];
         let request = ShareRequest { ids: IDS, signature_type, message: b"pay".to_vec(), responses };
-        let packet = signer::share_request(&request);
+        let packet = by_hand::share_request(&request);
         assert_eq!(ShareRequest::read(&packet), Ok(request));
     }
 }
@@ -54,9 +54,9 @@ fn kind_3_with_responses_of_their_own() {
 #[test]
 fn kind_4_with_any_shares() {
     let response = share_response();
-    assert_eq!(ShareResponse::read(&signer::share_response(&response)), Ok(response));
+    assert_eq!(ShareResponse::read(&by_hand::share_response(&response)), Ok(response));
     let none = ShareResponse { shares: vec![], ..share_response() };
-    assert_eq!(ShareResponse::read(&signer::share_response(&none)), Ok(none));
+    assert_eq!(ShareResponse::read(&by_hand::share_response(&none)), Ok(none));
 }
 
 #[test]
@@ -69,8 +69,8 @@ fn key_generation_has_no_parts() {
 
 #[test]
 fn a_packet_of_another_kind_is_not_taken_for_one() {
-    let nonces = signer::nonce_response(&response(1, b"a", 1));
-    let shares = signer::share_response(&share_response());
+    let nonces = by_hand::nonce_response(&response(1, b"a", 1));
+    let shares = by_hand::share_response(&share_response());
     assert_eq!(NonceRequest::read(&nonces), Err(Refusal::Layout));
     assert_eq!(NonceResponse::read(&shares), Err(Refusal::Layout));
     assert_eq!(ShareRequest::read(&nonces), Err(Refusal::Layout));
@@ -88,7 +88,7 @@ fn cut_off_and_changed_packets() {
         message: b"pay".to_vec(),
         responses: vec![response(1, b"x", 2)],
     };
-    let packet = signer::share_request(&request);
+    let packet = by_hand::share_request(&request);
     for length in 0..packet.len() {
         assert_eq!(Contents::read(&packet[..length]), Err(Refusal::Layout), "{length} bytes");
     }

@@ -72,10 +72,10 @@ fn who_did_not_end_key_generation() {
 #[test]
 fn what_is_not_compared() {
     let (mut c, request) = started(&worked());
-    let none = signer::answer(&request, SignerId(0), &keys(&[1]), &[]);
+    let none = signer::answer(&request, SignerId(0), &keys(&[1]), &[]).unwrap();
     assert_eq!(c.process(101, Verdict::Good, &none), Ok(Answer::Nothing));
     assert_eq!(c.process(101, Verdict::Good, &answers(&request, 0)), Ok(Answer::Nothing));
-    let five = signer::answer(&request, SignerId(1), &keys(&[2, 3]), &[NONCE; 5]);
+    let five = signer::answer(&request, SignerId(1), &keys(&[2, 3]), &[NONCE; 5]).unwrap();
     let sent = c.process(101, Verdict::Good, &five).unwrap();
     let sent = ShareRequest::read(sent.packet().unwrap()).unwrap();
     assert_eq!(sent.responses.iter().map(|r| r.nonces.len()).collect::<Vec<_>>(), [0, 5]);

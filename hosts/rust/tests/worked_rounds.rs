@@ -50,7 +50,7 @@ fn key_lists_are_compared_as_sets() {
 fn generator_and_identity_are_no_nonces() {
     let (mut c, request) = started(&worked());
     assert_eq!(c.process(101, GOOD, &answers(&request, 1)), Ok(Answer::Nothing));
-    let with = |nonce| signer::answer(&request, SignerId(0), &keys(&[1]), &[nonce]);
+    let with = |nonce| signer::answer(&request, SignerId(0), &keys(&[1]), &[nonce]).unwrap();
     let refused = [
         Nonce { d: GENERATOR, ..NONCE },
         Nonce { e: GENERATOR, ..NONCE },

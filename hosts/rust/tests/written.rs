@@ -1,4 +1,5 @@
-//! What the library writes for a host: every field is read back, the bytes are those of this crate's own writer and of a coordinator.
+//! What the library writes for a host and for a signer: every field is read back, the bytes are those of a writer by hand and of a
+//! coordinator.
 
 mod common;
 use common::*;
@@ -40,7 +41,7 @@ fn a_nonce_request_of_each_type() {
         for message in [&b""[..], b"pay", &[0xff; 256]] {
             let packet = write::nonce_request(Head { signature_type, ..head(message) }).unwrap();
             let request = NonceRequest { ids: IDS, signature_type, message: message.to_vec() };
-            assert_eq!(packet, signer::nonce_request(&request));
+            assert_eq!(packet, by_hand::nonce_request(&request));
             assert_eq!(NonceRequest::read(&packet), Ok(request));
         }
     }
@@ -52,7 +53,7 @@ fn a_share_request_with_responses_of_their_own() {
         let responses = vec![response(100, 2, 4), response(40, 16, 0), response(200, 0, 16), response(7, 3, 1)];
         let packet = write::share_request(Head { signature_type, ..head(b"pay") }, &responses).unwrap();
         let request = ShareRequest { ids: IDS, signature_type, message: b"pay".to_vec(), responses };
-        assert_eq!(packet, signer::share_request(&request));
+        assert_eq!(packet, by_hand::share_request(&request));
         let parts: Vec<_> = Packet::read(&packet).unwrap().parts().skip(2).collect();
         for (part, response) in parts.iter().zip(&request.responses) {
             assert_eq!(NonceResponse::read(part).as_ref(), Ok(response), "a packet of its own");
@@ -79,6 +80,90 @@ fn a_job_of_several_signers() {
         assert_eq!(Job::read(&packet), Ok(job));
         assert_eq!(Packet::read(&packet), Err(Refusal::Layout), "it only goes out");
     }
+}
+
+/// Both of a signer's calls; where they write, they write the same.
+fn answered(response: &NonceResponse) -> Result<Vec<u8>, Refusal> {
+    let NonceResponse { ids, signer, message, key_ids, nonces } = response.clone();
+    let request = NonceRequest { ids, signature_type: TYPES[0], message };
+    let packet = signer::answer(&request, signer, &key_ids, &nonces);
+    let mut out = [7; NONCE_RESPONSE_LIMIT];
+    let head = signer::Head { ids, signer };
+    let length = signer::nonce_response(&mut out, head, &request.message, &key_ids, &nonces);
+    assert_eq!(packet, length.map(|length| out[..length].to_vec()));
+    packet
+}
+
+fn shared(response: &ShareResponse) -> Result<Vec<u8>, Refusal> {
+    let ShareResponse { ids, signer, shares } = response;
+    let request = ShareRequest { ids: *ids, signature_type: TYPES[0], message: vec![], responses: vec![] };
+    let packet = signer::share(&request, *signer, shares);
+    let mut out = [7; SHARE_RESPONSE_LIMIT];
+    let length = signer::share_response(&mut out, signer::Head { ids: *ids, signer: *signer }, shares);
+    assert_eq!(packet, length.map(|length| out[..length].to_vec()));
+    packet
+}
+
+#[test]
+fn a_nonce_response_with_any_lists() {
+    for (keys, nonces) in [(0, 0), (1, 1), (2, 4), (16, 0), (0, 16), (3, 2), (16, 16)] {
+        for message in [&b""[..], b"pay", &[0xff; 256]] {
+            let response = NonceResponse { message: message.to_vec(), ..response(100, keys, nonces) };
+            let packet = answered(&response).unwrap();
+            assert_eq!(packet, by_hand::nonce_response(&response));
+            assert_eq!(NonceResponse::read(&packet), Ok(response));
+        }
+    }
+}
+
+#[test]
+fn a_share_response_with_any_shares() {
+    let several = vec![share_of(7, &[3, 1, 3]), share_of(8, &[]), share_of(7, &[9])];
+    for shares in [vec![], vec![share_of(1, &[])], several, (0..16).map(|i| share_of(i, &[i])).collect()] {
+        let response = ShareResponse { ids: IDS, signer: SignerId(u32::MAX), shares };
+        let packet = shared(&response).unwrap();
+        assert_eq!(packet, by_hand::share_response(&response));
+        assert_eq!(ShareResponse::read(&packet), Ok(response));
+    }
+}
+
+/// Kind 2 and kind 4 into buffers of every length.
+#[test]
+fn a_buffer_that_is_as_short_as_the_packet() {
+    let (nonces, shares) = (response(100, 2, 2), [share_of(1, &[2, 3])]);
+    let head = signer::Head { ids: nonces.ids, signer: nonces.signer };
+    let write_nonces = |out: &mut [u8]| signer::nonce_response(out, head, b"a", &nonces.key_ids, &nonces.nonces);
+    let write_shares = |out: &mut [u8]| signer::share_response(out, head, &shares);
+    at_every_length(197, write_nonces);
+    at_every_length(84, write_shares);
+}
+
+fn at_every_length(length: usize, write: impl Fn(&mut [u8]) -> Result<usize, Refusal>) {
+    for room in 0..length + 9 {
+        let mut out = vec![0xaa; room];
+        let wanted = if room < length { Err(Refusal::Buffer) } else { Ok(length) };
+        assert_eq!(write(&mut out), wanted, "{room} bytes");
+        assert!(out[wanted.unwrap_or(0)..].iter().all(|byte| *byte == 0xaa), "{room} bytes");
+    }
+}
+
+#[test]
+fn one_past_each_limit_of_a_response() {
+    let answer = |message: usize, keys, nonces| {
+        answered(&NonceResponse { message: vec![7; message], ..response(1, keys, nonces) }).map(|packet| packet.len())
+    };
+    assert_eq!(answer(256, 16, 16), Ok(NONCE_RESPONSE_LIMIT));
+    assert_eq!(answer(257, 16, 16), Err(Refusal::Limit));
+    assert_eq!(answer(256, 17, 16), Err(Refusal::Limit));
+    assert_eq!(answer(256, 16, 17), Err(Refusal::Limit));
+
+    let of = |keys: usize| share_of(1, &vec![4; keys]);
+    let share = |shares| shared(&ShareResponse { ids: IDS, signer: SignerId(1), shares }).map(|packet| packet.len());
+    assert_eq!(share(vec![of(1); 16]), Ok(SHARE_RESPONSE_LIMIT));
+    assert_eq!(share(vec![of(0); 17]), Err(Refusal::Limit));
+    assert_eq!(share(vec![of(8), of(8)]), Ok(32 + 2 * 44 + 16 * 4));
+    assert_eq!(share(vec![of(8), of(9)]), Err(Refusal::Limit), "17 in all");
+    assert_eq!(share(vec![of(17)]), Err(Refusal::Limit));
 }
 
 #[test]

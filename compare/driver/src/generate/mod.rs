@@ -119,6 +119,7 @@ impl<'a> Generator<'a> {
             self.advance();
             self.any_call()?;
         }
+        self.reached.responses(self.both.responses.counts);
         Ok(())
     }
 

@@ -174,7 +174,7 @@ fn key_generation(h: &Head, parts: &[&[u8]]) -> Option<Message> {
 
 /// The message of a packet that is laid out as 01 says (question 8). Fields that a kind lacks
 /// must be 0.
-fn laid_out(b: &[u8]) -> Option<Message> {
+pub fn laid_out(b: &[u8]) -> Option<Message> {
     let (head, parts) = split(b)?;
     match head.kind {
         1 => nonce_request(&head, &parts),
@@ -186,14 +186,14 @@ fn laid_out(b: &[u8]) -> Option<Message> {
     }
 }
 
-fn response_fits(m: &NonceResponse) -> bool {
+pub fn response_fits(m: &NonceResponse) -> bool {
     m.message.len() <= MESSAGE_LIMIT
         && m.key_ids.len() <= LIST_LIMIT
         && m.nonces.len() <= LIST_LIMIT
 }
 
 /// Question 9.
-fn fits(m: &Message) -> bool {
+pub fn fits(m: &Message) -> bool {
     match m {
         Message::NonceRequest(m) => m.message.len() <= MESSAGE_LIMIT,
         Message::NonceResponse(m) => response_fits(m),

@@ -8,6 +8,7 @@ use crate::{
     calls::{Answer, Call, Step},
     fire::Fire,
     probes,
+    responses::Counts,
     states::{self, IDLE, NONCE_GATHER},
 };
 use corners::{Corners, Seen};
@@ -41,6 +42,7 @@ pub struct Reached {
     moves: [u64; 2],
     pub corners: Corners,
     largest_in: usize,
+    responses: Counts,
 }
 
 fn call_number(c: &Call) -> usize {
@@ -61,6 +63,13 @@ fn call_number(c: &Call) -> usize {
 impl Reached {
     pub fn sequence(&mut self) {
         self.sequences += 1;
+    }
+
+    /// Of a whole sequence.
+    pub fn responses(&mut self, counts: Counts) {
+        let sum = &mut self.responses;
+        sum.written.iter_mut().zip(counts.written).for_each(|(sum, n)| *sum += n);
+        sum.refused += counts.refused;
     }
 
     pub fn step(&mut self, fire: &Fire, step: &Step, answer: &Answer) {
@@ -137,6 +146,11 @@ impl Reached {
         self.print_refusals();
         corners::NAMES.iter().for_each(|name| row(name, self.corners.count(name)));
         row("longest packet in, bytes", self.largest_in as u64);
+        let Counts { written: [nonces, shares], refused } = self.responses;
+        row("written by the library too, nested ones included: kind 2", nonces);
+        row("written by the library too: kind 4", shares);
+        row("refused 26 by its writers: a byte less lent to each", nonces + shares);
+        row("refused 9 by its writers: kinds 2 and 4 over a limit", refused);
         for (name, n) in probes::NAMES.iter().zip(self.probes).skip(1) {
             row(&format!("probe: {name}"), n);
         }

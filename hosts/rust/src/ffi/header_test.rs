@@ -39,6 +39,7 @@ fn structs() -> Vec<Line> {
         layout_of!(RcResponses, "rc_responses", places count),
         layout_of!(RcJobPlace, "rc_job_place", key_ids nonces shares share_keys_at share_key_counts),
         layout_of!(RcJobPlaces, "rc_job_places", places count),
+        layout_of!(RcResponseHead, "rc_response_head", dkg_id sign_id sign_iter_id signer_id reserved),
     ]
     .concat()
 }
@@ -51,6 +52,8 @@ fn numbers() -> Vec<Line> {
         ("RC_MESSAGE_LIMIT", MESSAGE_LIMIT),
         ("RC_SIGNER_LIMIT", SIGNER_LIMIT),
         ("RC_KEY_LIMIT", KEY_LIMIT),
+        ("RC_NONCE_RESPONSE_LIMIT", NONCE_RESPONSE_LIMIT),
+        ("RC_SHARE_RESPONSE_LIMIT", SHARE_RESPONSE_LIMIT),
         ("RC_SIGNER_PLACES", SIGNER_PLACES),
         ("RC_KEY_PLACES", KEY_PLACES),
         ("RC_VERSION", crate::version() as usize),
@@ -98,6 +101,7 @@ fn in_c(rust: &str) -> &'static str {
         "RcSignerIds" => "rc_signer_ids",
         "RcResponses" => "rc_responses",
         "RcJobPlaces" => "rc_job_places",
+        "RcResponseHead" => "rc_response_head",
         other => panic!("a type without a C name: {other}"),
     }
 }

@@ -1,4 +1,5 @@
-//! What the crate's writers do not let a host say: a short buffer, a type above 3, places outside the source, and what stays past a packet.
+//! What the crate's writers do not let a host say: a short buffer, a type above 3, places outside the source, lists that do not agree, and
+//! what stays past a packet.
 
 use super::*;
 use crate::limits::ANSWER_LENGTH;
@@ -87,4 +88,49 @@ fn places_that_do_not_count_are_not_looked_at() {
     given.places[0] = responses(RcPlace { at: 66, count: 0 }).places[0];
     let mut out = vec![FILLED; ANSWER_LENGTH];
     assert_eq!(write_signature_share_request(&mut out, HEAD, b"pay", &SOURCE, given).refusal, 0);
+}
+
+const RESPONSE: RcResponseHead =
+    RcResponseHead { dkg_id: 1, sign_id: 2, sign_iter_id: 3, signer_id: 4, reserved: 0xaaaa_aaaa };
+const IDS_2: [u32; 2] = [8, 9];
+const SHARES: Shares<'_> = Shares { ids: &IDS_2, z_i: &[5; 64], key_counts: &[0, 2], key_ids: &IDS_2 };
+
+#[test]
+fn a_response_leaves_what_is_past_it_and_reserved_bytes_are_not_looked_at() {
+    let head = RcResponseHead { reserved: 0, ..RESPONSE };
+    let writers: [fn(&mut [u8], RcResponseHead) -> RcWritten; 2] = [
+        |out, head| write_nonce_response(out, head, b"pay", &IDS_2, &SOURCE),
+        |out, head| write_signature_share_response(out, head, &SHARES),
+    ];
+    for (write, length) in writers.iter().zip([56 + 3 + 8 + 66, 32 + 2 * 44 + 8]) {
+        let (mut out, mut again) = (vec![FILLED; length + 9], vec![0; length]);
+        assert_eq!(write(&mut out, RESPONSE), RcWritten { length: length as u64, ..Default::default() });
+        assert_eq!(out[length..], [FILLED; 9]);
+        assert_eq!(write(&mut again, head).refusal, 0, "an exact fit");
+        assert_eq!(again, out[..length]);
+    }
+}
+
+#[test]
+fn lists_that_do_not_agree_are_refused_with_9_before_26() {
+    for length in [1000, 0] {
+        let mut out = vec![FILLED; length];
+        for nonces in [1, 65, 67, 17 * 66] {
+            refused(write_nonce_response(&mut out, RESPONSE, b"pay", &IDS_2, &vec![7; nonces]), 9);
+        }
+        let z_i = [5; 96];
+        let others = [
+            Shares { z_i: &z_i[..63], ..SHARES },
+            Shares { z_i: &z_i[..65], ..SHARES },
+            Shares { z_i: &z_i, ..SHARES },
+            Shares { ids: &[8], ..SHARES },
+            Shares { key_counts: &[2], ..SHARES },
+            Shares { key_counts: &[0, 2, 0], ..SHARES },
+            Shares { key_counts: &[1, 2], ..SHARES },
+            Shares { key_counts: &[3, u32::MAX], ..SHARES },
+            Shares { key_ids: &[8], ..SHARES },
+        ];
+        others.iter().for_each(|shares| refused(write_signature_share_response(&mut out, RESPONSE, shares), 9));
+        assert_eq!(out, vec![FILLED; length], "a refusal writes nothing");
+    }
 }

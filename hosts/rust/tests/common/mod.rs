@@ -1,6 +1,8 @@
 //! Rounds up to where a test begins, with 01's worked configuration. Nonces and shares are made up.
 #![allow(dead_code)] // each test file uses some of it
 
+pub mod by_hand;
+
 use roundcabinet::*;
 
 /// G, which is no valid commitment.
@@ -64,7 +66,7 @@ pub fn answers(request: &NonceRequest, signer: u32) -> Vec<u8> {
 }
 
 pub fn answers_with(request: &NonceRequest, signer: u32, numbers: &[u32]) -> Vec<u8> {
-    signer::answer(request, SignerId(signer), &keys(numbers), &vec![NONCE; numbers.len()])
+    signer::answer(request, SignerId(signer), &keys(numbers), &vec![NONCE; numbers.len()]).unwrap()
 }
 
 /// A signer's answer to another message than the request's.
@@ -78,7 +80,7 @@ pub fn shares(request: &ShareRequest, signer: u32) -> Vec<u8> {
 }
 
 pub fn shares_with(request: &ShareRequest, signer: u32, numbers: &[u32]) -> Vec<u8> {
-    signer::share(request, SignerId(signer), &numbers.iter().map(|k| share(*k)).collect::<Vec<_>>())
+    signer::share(request, SignerId(signer), &numbers.iter().map(|k| share(*k)).collect::<Vec<_>>()).unwrap()
 }
 
 pub fn share(key: u32) -> Share {
@@ -88,7 +90,7 @@ pub fn share(key: u32) -> Share {
 /// A request of another coordinator, for Idle.
 pub fn idle_request(message: &[u8], sign_id: u64, iteration: u64) -> Vec<u8> {
     let ids = RoundIds { dkg_id: DKG, sign_id, iteration };
-    signer::nonce_request(&NonceRequest { ids, signature_type: SignatureType::Frost, message: message.to_vec() })
+    by_hand::nonce_request(&NonceRequest { ids, signature_type: SignatureType::Frost, message: message.to_vec() })
 }
 
 /// A message of key generation, which has no parts: kind 5, 6 or 7.
