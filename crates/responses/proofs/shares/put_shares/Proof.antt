@@ -2,6 +2,10 @@
 -- Assumes nothing.
 use Rattle.responses.proofs.shares.put_shares.Statement.{statement}
 use Rattle.responses.proofs.shares.put_shares.Tie as tie
+use Rattle.responses.proofs.shares.put_shares.Reads as reads
+use Rattle.responses.proofs.shares.put_shares.Lts as lts
+use Rattle.responses.proofs.shares.put_share.Reads as put-share-reads
+use Rattle.wire.proofs.part.Reads as part-reads
 use Prim.Native.Nat.{_≤_, _<_, _-_, _+_, _*_}
 use mathlib.Core.Path.{_≡_, refl, ap, _∙_}
 use mathlib.Core.List.{map}
@@ -84,6 +88,20 @@ put-share-requires c κs =
       rw (part .part .ensures) (length-take-le 32 (drop (l .i * 32) z-i) (rw length-drop (omega (arith, l .inv .2)))),
     )
 
+-- the key ids of this share and of those before it are no more than all
+keys-left :
+    (c : lts.After-slice-known2 (part-reads.Asked, part-reads.Learnt, put-share-reads.Asked, put-share-reads.Learnt)
+    reads.Pre reads.Post Inv-loop μ-loop) → let part = c .before .before .before .before .before .before in
+    let at-loop = part .before .before .before in
+    let a = at-loop .before .before .before .before .before .before .args in
+    at-loop .loop .keys-from + getD (a .key-counts .now) (at-loop .loop .i) 0 ≤ length (a .key-ids .now)
+keys-left c =
+    let part = c .before .before .before .before .before .before in
+    let at-loop = part .before .before .before in
+    let counts = at-loop .before .before .before .before .before .before .args .key-counts .now in
+    let l = at-loop .loop in
+    count-in counts (l .i) (l .keys-from) _ (omega (arith, l .inv .1)) (l .inv .5)
+
 cast-next : tie.Need-cast-next Inv-loop μ-loop
 cast-next c = omega arith
 
@@ -91,25 +109,13 @@ cast-next-2 : tie.Need-cast-next-2 Inv-loop μ-loop
 cast-next-2 c = omega arith
 
 mul-next : tie.Need-mul-next Inv-loop μ-loop
-mul-next c =
-    let at-loop = c .before .before .before .before .before .before .before .before .before in
-    let counts = at-loop .before .before .before .before .before .before .args .key-counts .now in
-    let l = at-loop .loop in
-    omega (arith, count-in counts (l .i) (l .keys-from) _ (omega (arith, l .inv .1)) (l .inv .5))
+mul-next c = omega (arith, keys-left c)
 
 add-next : tie.Need-add-next Inv-loop μ-loop
-add-next c =
-    let at-loop = c .before .before .before .before .before .before .before .before .before in
-    let counts = at-loop .before .before .before .before .before .before .args .key-counts .now in
-    let l = at-loop .loop in
-    omega (arith, count-in counts (l .i) (l .keys-from) _ (omega (arith, l .inv .1)) (l .inv .5))
+add-next c = omega (arith, keys-left c)
 
 add-next-2 : tie.Need-add-next-2 Inv-loop μ-loop
-add-next-2 c =
-    let at-loop = c .before .before .before .before .before .before .before .before .before in
-    let counts = at-loop .before .before .before .before .before .before .args .key-counts .now in
-    let l = at-loop .loop in
-    omega (arith, count-in counts (l .i) (l .keys-from) _ (omega (arith, l .inv .1)) (l .inv .5))
+add-next-2 c = omega (arith, keys-left c)
 
 add-i : tie.Need-add-i Inv-loop μ-loop
 add-i c = omega arith
