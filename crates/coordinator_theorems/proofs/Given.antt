@@ -25,7 +25,7 @@ all-formed s vs g =
       root = coordinator-root s vs g;
     }
 
-ids-fit : (i : Ids) (vs : List Val) → Is Ids-row.the-row i vs → IdsFit i
+pub ids-fit : (i : Ids) (vs : List Val) → Is Ids-row.the-row i vs → IdsFit i
 ids-fit i vs g = record { dkg-id = g .1 .1 .0 .1; sign-id = g .1 .1 .1 .0 .1; sign-iter-id = g .1 .1 .1 .1 .0 .1 }
 
 pub all-fit : (s : Coordinator) (vs : List Val) → Is Coordinator-row.the-row s vs → Fits s

@@ -23,7 +23,9 @@ use Rattle.parts.specs.Parts.{partIn}
 use Rattle.packet_in_hand.specs.InHand.{counted}
 use Rattle.library_reader.specs.declared.RcPacket.{RcPacket}
 use Rattle.library_reader.specs.Plain.{plainHeader, packetOf}
+use Rattle.responses.specs.declared.lists.ResponseHead.{ResponseHead}
 use Rattle.responses.specs.Responses.{nonceResponseGiven, shareResponseGiven}
+use Rattle.responses.proofs.lists.ResponseHead as ResponseHead-row
 use Rattle.responses.specs.ReadBack.{HeadFits, nonceResponseLength, shareResponseLength, NoncesTaken, SharesTaken, Answers}
 use Rattle.responses.specs.ReadBack.{idsOf, z-isOf, countsOf, keyIdsOf, headIn, lent}
 use Rattle.responses.specs.ReadBack as R
@@ -32,6 +34,7 @@ use Rattle.responses.proofs.ReadBack.{share-response-read, share-response-answe
 use Rattle.library_writers.specs.declared.given.RcResponseHead.{RcResponseHead}
 use Rattle.library_writers.specs.declared.written.RcWritten.{RcWritten}
 use Rattle.library_writers.specs.Given.{responseHeadOf}
+use Rattle.coordinator_theorems.proofs.Given.{ids-fit}
 use Rattle.library_writers.proofs.given.RcResponseHead as RcResponseHead-row
 use Rattle.library_writers.specs.Written.{WrotePlain}
 use Rattle.library_theorems.specs.Responses.{WroteNonceResponse, WroteShareResponse, HeadHolds}
@@ -193,8 +196,11 @@ module _ (out : List ℕ) (w : RcWritten) (out′ : List ℕ) where
       parts-are s m e 0 (packetOf (decode s) .pairs) (omega (arith, n)) ∙ ap (partsFrom s 32) (n ∙ same) in
       back s out w out′ _ (rw (head-is s m e reserved, parts) (share-response-back (length out) s b (shareResponseIn s) e)) d
 
--- what is asked of a head's numbers holds of every value of its type
-pub head-holds : (h : RcResponseHead) (vs : List Val) → Is RcResponseHead-row.the-row h vs → HeadHolds h
-head-holds h vs g =
+-- what is asked of a head's numbers holds of every value of its type, in Rattle and in C
+pub all-heads-fit : (h : ResponseHead) (vs : List Val) → Is ResponseHead-row.the-row h vs → HeadFits h
+all-heads-fit h vs g = record { ids = ids-fit (h .ids) _ (g .1 .1 .0); signer-id = g .1 .1 .1 .0 .1 .1 .0 .1 }
+
+pub all-heads-hold : (h : RcResponseHead) (vs : List Val) → Is RcResponseHead-row.the-row h vs → HeadHolds h
+all-heads-hold h vs g =
     let ids = g .1 .1 in
     record { dkg-id = ids .0 .1; sign-id = ids .1 .0 .1; sign-iter-id = ids .1 .1 .0 .1; signer-id = ids .1 .1 .1 .0 .1 }

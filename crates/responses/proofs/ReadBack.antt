@@ -5,22 +5,17 @@ use mathlib.Core.Path.{_≡_, sym, ap, subst, _∙_}
 use mathlib.Core.List.{List, map}
 use lib.ListN.{length}
 use borrow.Author.Tests.{eqb-true}
-use mir.Val.{Val}
-use denote.Laws.{Is}
 use Rattle.wire.specs.Bytes.{Bytes, joined}
-use Rattle.layout.specs.declared.Ids.{Ids}
-use Rattle.layout.proofs.Ids as Ids-row
 use Rattle.layout.specs.declared.Header.{Header}
 use Rattle.layout.specs.Messages.{NonceResponse, SignatureShareResponse, nonceResponse, signatureShareResponse}
 use Rattle.layout.specs.Encode.{headerOf, nonceBytes}
 use Rattle.layout.specs.LaidOut.{headerIn, partAt, partsFrom, wholeEntries}
 use Rattle.layout.specs.Decode.{idsIn, shareIn, decode, taken}
-use Rattle.layout.specs.Fits.{IdsFit, IdsListed, ResponseFits, ShareResponseFits}
+use Rattle.layout.specs.Fits.{IdsListed, ResponseFits, ShareResponseFits}
 use Rattle.layout.proofs.Entries.{fits-noncesIn, bytes-noncesIn, noncesIn-bytes, whole-nonces}
 use Rattle.layout.proofs.RoundTrip.{decode-encode, encode-decode, decode-fits}
 use Rattle.framing.specs.Writing.{written}
 use Rattle.responses.specs.declared.lists.ResponseHead.{ResponseHead}
-use Rattle.responses.proofs.lists.ResponseHead as ResponseHead-row
 use Rattle.responses.specs.Responses.{nonceResponseGiven, writeNonceResponse}
 use Rattle.responses.specs.Responses.{listsAgree, shareResponseGiven, writeSignatureShareResponse}
 use Rattle.responses.specs.ReadBack.{HeadFits, HeadRead, nonceResponseLength, NonceResponseRead, idsOf, z-isOf, countsOf, keyIdsOf}
@@ -162,10 +157,3 @@ module _ (room : ℕ) (s : List ℕ) (b : Bytes s) (r : SignatureShareResponse) 
       let d = decode-fits s (signatureShareResponse r) b e in
       let at : SharesAt r s = subst (SharesAt r) (encode-decode s (signatureShareResponse r) b e) (shares-at r (d .0) (d .1)) in
       rw (at .header-at, at .shares-at) share-response-said
-
--- what is asked of a head's numbers holds of every value of its type
-ids-fit : (i : Ids) (vs : List Val) → Is Ids-row.the-row i vs → IdsFit i
-ids-fit i vs g = record { dkg-id = g .1 .1 .0 .1; sign-id = g .1 .1 .1 .0 .1; sign-iter-id = g .1 .1 .1 .1 .0 .1 }
-
-pub head-fits : (h : ResponseHead) (vs : List Val) → Is ResponseHead-row.the-row h vs → HeadFits h
-head-fits h vs g = record { ids = ids-fit (h .ids) _ (g .1 .1 .0); signer-id = g .1 .1 .1 .0 .1 .1 .0 .1 }

@@ -9,7 +9,7 @@ use Rattle.layout.specs.Decode.{entries, nonceIn, noncesIn, responseWithin, key
 use Rattle.framing.specs.Writing.{written, answer, total}
 use Rattle.responses.specs.Responses.{lending, nonceResponseGiven, writeNonceResponse, sharesGiven, listsAgree, shareResponseGiven}
 use Rattle.responses.specs.Responses.{writeSignatureShareResponse}
-use Rattle.responses.specs.Rounds.{nonceRounds, writingNonces, shareRounds, writingShares, oneShare, onePacket}
+use Rattle.responses.specs.Rounds.{nonceRounds, writingNonces, shareRounds, writingShares, twoGiven, twoShares, oneShare, onePacket}
 
 -- all in one computation
 tables : (map writingNonces nonceRounds ≡ nonceRounds) × (map writingShares shareRounds ≡ shareRounds) × (oneShare ≡ written onePacket)
@@ -26,3 +26,7 @@ share-rounds = tables .1
 
 pub packet-round : oneShare ≡ written onePacket
 packet-round = tables .2
+
+pub cut-round : twoGiven ≡ twoShares
+unfolding sharesGiven
+cut-round = refl

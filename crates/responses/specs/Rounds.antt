@@ -1,12 +1,13 @@
 -- Rounds for a signer's writers: what each is given, and what it answers; and one packet, byte by byte.
 use Prim.Native.Nat.{ℕ}
-use mathlib.Core.List.{List, [], _∷_}
+use mathlib.Core.List.{List, [], _∷_, _++_}
 use lib.ListN.{replicate}
+use Rattle.layout.specs.Messages.{SignatureShare}
 use Rattle.framing.specs.declared.Written.{Written}
 use Rattle.framing.specs.declared.Written.the-variants.{Bytes, Refused}
 use Rattle.framing.specs.Writing.{Writing, answer}
 use Rattle.responses.specs.declared.lists.ResponseHead.{ResponseHead}
-use Rattle.responses.specs.Responses.{writeNonceResponse, writeSignatureShareResponse}
+use Rattle.responses.specs.Responses.{writeNonceResponse, shareOf, sharesGiven, writeSignatureShareResponse}
 use Rattle.responses.specs.ReadBack.{senderOf}
 
 -- signer 1, dkg 2, sign 3, iteration 4
@@ -47,6 +48,7 @@ nonceRounds =
     -- nonces that are no whole entries
     ∷ nonces 2000 1 (2 ∷ 3 ∷ []) 131 (Refused 9)
     ∷ nonces 2000 1 (2 ∷ 3 ∷ []) 133 (Refused 9)
+    ∷ nonces 2000 1 (2 ∷ 3 ∷ []) 99 (Refused 9)
     -- nothing at all, and a nonce more than there are keys
     ∷ nonces 56 0 [] 0 (Bytes 56)
     ∷ nonces 55 0 [] 0 (Refused 26)
@@ -94,6 +96,13 @@ shareRounds =
     ∷ shares 0 (1 ∷ []) 32 (2 ∷ []) (7 ∷ []) (Refused 9)
     ∷ shares 0 (1 ∷ []) 32 (0 ∷ []) (7 ∷ []) (Refused 9)
     ∷ []
+
+-- two shares cut from the four lists: each has its own z_i and its own keys
+abbrev pub twoGiven : List SignatureShare
+twoGiven = sharesGiven (5 ∷ 6 ∷ []) (replicate 32 1 ++ replicate 32 2) (1 ∷ 2 ∷ []) (7 ∷ 8 ∷ 9 ∷ [])
+
+abbrev pub twoShares : List SignatureShare
+twoShares = shareOf 5 (replicate 32 1) (7 ∷ []) ∷ shareOf 6 (replicate 32 2) (8 ∷ 9 ∷ []) ∷ []
 
 -- one share, of id 5 and keys 2 and 300, and its packet
 abbrev pub oneShare : Writing
