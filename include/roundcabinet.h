@@ -69,9 +69,9 @@
  *     33 nonce timeout            to the host   none                      who has answered, who is struck (signer ids, 4 bytes each)
  *     34 insufficient signers     to the host   none                      who is struck
  *
- * So kinds 2 and 4 have type 0, whatever is signed. A root has 32 bytes where the type is 3, else 0. Even kinds up to 6 are a signer's. In 3 and 32 lists
- * are each signer's own, joined in ascending order of signers. A share's id is its party's, as the signer says it (WSTS's first form: the key; its second: the
- * signer); it is kept for the aggregator and compared with nothing. A point has 33 bytes: identity is 33 zero bytes, the generator G is hexadecimal
+ * So kinds 2 and 4 have type 0, whatever is signed. A root has 32 bytes where the type is 3, else 0. Whose seal a kind bears stands under "from". In 3 and 32
+ * lists are each signer's own, joined in ascending order of signers. A share's id is its party's, as the signer says it (WSTS's first form: the key; its second:
+ * the signer); it is kept for the aggregator and compared with nothing. A point has 33 bytes: identity is 33 zero bytes, the generator G is hexadecimal
  * 02 79BE667EF9DCBBAC55A06295CE870B07029BFCDB2DCE28D959F2815B16F81798; a response with either of them as a D or an E is dropped whole, as fire.rs does it.
  * Limits (9): a message of 256 bytes; 16 key ids and 16 nonces to a response; 16 shares with 16 key ids in all; 10 nested responses.
  */

@@ -11,6 +11,12 @@ from site_model import PAIR, U64, WORKED, ZERO, Site, configured
 
 POINT = bytes([2] + [9] * 32)
 ALL = set(range(1, 26))
+# the worked configuration without signer 0, verified
+STRANGER = configured([(1, [2, 3]), (2, [4])], verify=1)
+
+
+def with_signer(s, i):
+    return s[:4] + le(4, i) + s[8:]
 
 
 def worked(s):
@@ -224,6 +230,12 @@ def packets(s):
     s.key("coordinator key cleared", 0, 0)
     s.process("shares: 13", 102, s.shares(0))
     s.process("late: no 13", 120, s.shares(0))
+    s.ready("who sealed it, kind by kind: 0 stands in the signer's place and is not configured", STRANGER, 100)
+    s.key("coordinator key held", 0, 1)
+    for name in sorted(quiet):
+        s.process(name + " by process", 101, with_signer(quiet[name], 0))
+        s.process_message(name + " by process_message", 101, with_signer(quiet[name], 0))
+    s.process("kind 6 of a configured signer", 101, with_signer(quiet["kind 6"], 2))
     s.ready("no verification: verdict and coordinator key do not matter", clock=100)
     s.process("0 answers, verdict bad", 101, s.answers(0), 0)
     s.process("1 answers, verdict bad", 101, s.answers(1), 0)

@@ -8,6 +8,8 @@ from bench import STATES, fields, laid_out, le, may_move, packet, response, shar
 ZERO = bytes(32)
 U64 = 2 ** 64
 NOTHING = ("nothing",)
+# net.rs, Packet::verify: whether a signer's key tests this kind, or the coordinator's
+IS_SIGNER_KIND = {1: False, 2: True, 3: False, 4: True, 5: False, 6: True, 7: False}
 
 
 def error(n, *values):
@@ -117,7 +119,7 @@ class Coordinator:
         if self.config["verify"]:
             if not self.held[0]:
                 return error(13)
-            if (h["kind"] % 2 == 0 and h["signer"] not in self.keys) or not verdict:
+            if (IS_SIGNER_KIND[h["kind"]] and h["signer"] not in self.keys) or not verdict:
                 return error(14)
         if self.state == "Idle":
             return self.idle(clock, h, parts)

@@ -1,6 +1,7 @@
 /*
  * What docs/HOSTS.md says of the library's corners, tried with real signers: a line for each, and what was expected did come.
  */
+#include "layout.h"
 #include "stage.h"
 
 #include <stdio.h>
@@ -203,6 +204,47 @@ static void loaded(void) {
     end();
 }
 
+/* A kind 1 to 7: how many parts it has at least, and whether a signer seals it. */
+typedef struct sort {
+    uint32_t kind, parts;
+    int signers;
+} sort;
+
+static const sort sorts[] = {
+    {RC_KIND_NONCE_REQUEST, 2, 0}, {RC_KIND_NONCE_RESPONSE, 3, 1}, {RC_KIND_SHARE_REQUEST, 2, 0},   {RC_KIND_SHARE_RESPONSE, 0, 1},
+    {RC_KIND_DKG_BEGIN, 0, 0},     {RC_KIND_DKG_SIGNER, 0, 1},     {RC_KIND_DKG_COORDINATOR, 0, 0},
+};
+
+/* A packet of that kind whose parts are empty, with that number in the signer's place. */
+static void make(sealed *p, sort of, uint32_t id, const scalar *seal) {
+    static const uint8_t none[1];
+    const span empty[] = {{none, 0}, {none, 0}, {none, 0}};
+    const rc_packet header = {.kind = of.kind, .pairs = of.parts, .signer_id = id, .dkg_id = HOST_DKG_ID};
+    p->packet.length = lay_out(p->packet.bytes, header, empty).length;
+    expect(&s, "read", rc_read_packet(p->packet.bytes, p->packet.length).kind == of.kind);
+    expect(&s, "sealed", seal_packet(p, seal));
+}
+
+/* A coordinator's kind has 0 in the signer's place, and signer 0 is configured: its seal is not good for them all the same. */
+static void who_sealed(void) {
+    static sealed p;
+    begin("each kind: under a signer's seal, under the coordinator's, and of a signer that nobody configured");
+    s.host.iteration = 0; /* as in these packets */
+    for (int i = 0; i < 7; i++) {
+        make(&p, sorts[i], 0, &s.host.seal);
+        expect(&s, "the coordinator's seal", host_verdict(&s.group, &p) == !sorts[i].signers);
+        make(&p, sorts[i], 0, &s.secrets[0].seal);
+        expect(&s, "signer 0's seal", host_verdict(&s.group, &p) == sorts[i].signers);
+        expect(&s, "heard where it is a signer's", host_hears(&s.host, &p.packet) == sorts[i].signers);
+        expect(&s, "the library has no use for it", is(take_unheard(&s, &p), RC_NOTHING, 0));
+        if (!sorts[i].signers) continue;
+        make(&p, sorts[i], 9, &s.secrets[0].seal);
+        expect(&s, "a stranger's", !host_verdict(&s.group, &p));
+        expect(&s, "a stranger's, called good: 14", is(take_unheard(&s, &p), RC_ERROR, RC_REFUSED_SEAL));
+    }
+    end();
+}
+
 int main(void) {
     if (!curve_open()) return 2;
     starts();
@@ -214,6 +256,7 @@ int main(void) {
     other_keys_last();
     late_share();
     loaded();
+    who_sealed();
     curve_close();
     printf(failures ? "%d wrong\n" : "all as it should be\n", failures);
     return failures != 0;

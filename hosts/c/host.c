@@ -62,11 +62,25 @@ rc_answer host_start(host *h, uint64_t clock, uint8_t type, span message, span r
         h, rc_start_signing_round(STATE, STORE, OUT, clock, message.bytes, message.length, type, given.bytes, given.length, 0, 0));
 }
 
+/* net.rs, Packet::verify, as in crates/layout's is_signer_kind: whether a signer's key tests this kind, or the coordinator's. */
+static int is_signer_kind(uint32_t kind) {
+    switch (kind) {
+    case RC_KIND_NONCE_REQUEST: return 0;
+    case RC_KIND_NONCE_RESPONSE: return 1;
+    case RC_KIND_SHARE_REQUEST: return 0;
+    case RC_KIND_SHARE_RESPONSE: return 1;
+    case RC_KIND_DKG_BEGIN: return 0;
+    case RC_KIND_DKG_SIGNER: return 1;
+    case RC_KIND_DKG_COORDINATOR: return 0;
+    default: return 0; /* rc_read_packet takes no other kind */
+    }
+}
+
 int host_verdict(const group *g, const sealed *s) {
     const rc_packet p = rc_read_packet(s->packet.bytes, s->packet.length);
     if (p.refusal != 0) return 0;
     const member *m = group_member(g, p.signer_id);
-    if (p.kind % 2 == 0) return m != NULL && seal_good(s, m->seal_key); /* even kinds are a signer's */
+    if (is_signer_kind(p.kind)) return m != NULL && seal_good(s, m->seal_key);
     return seal_good(s, g->host_seal_key);
 }
 
@@ -74,7 +88,7 @@ int host_hears(const host *h, const packet *p) {
     const rc_packet header = rc_read_packet(p->bytes, p->length);
     if (header.refusal != 0) return 1; /* the library says what is wrong with it */
     if (header.kind == RC_KIND_SHARE_RESPONSE) return header.sign_iter_id == h->iteration;
-    return header.kind % 2 == 0;
+    return is_signer_kind(header.kind);
 }
 
 rc_answer host_take(host *h, uint64_t clock, const sealed *s) {

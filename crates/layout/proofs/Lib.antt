@@ -8,3 +8,4 @@ pub mod Written
 pub mod Limits
 pub mod Lengths
 pub mod RoundTrip
+pub mod Seals

@@ -7,3 +7,4 @@ pub mod Encode
 pub mod LaidOut
 pub mod Decode
 pub mod Fits
+pub mod Seals

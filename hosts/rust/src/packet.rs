@@ -6,7 +6,7 @@ use crate::refusal::Refusal;
 use crate::signature::SignatureType;
 use std::fmt;
 
-/// What a packet is. Even kinds are a signer's.
+/// What a packet is. Whose seal it bears: [`is_signer_kind`](Kind::is_signer_kind).
 #[derive(Clone, Copy, Debug, PartialEq, Eq, Hash)]
 pub enum Kind {
     /// 1: a coordinator asks for nonces.
@@ -36,6 +36,19 @@ impl Kind {
             Kind::DkgBegin => 5,
             Kind::DkgSigner => 6,
             Kind::DkgCoordinator => 7,
+        }
+    }
+
+    /// Whether a signer's key tests its seal, that of the signer that the packet names, or the coordinator's: net.rs, `Packet::verify`.
+    pub fn is_signer_kind(self) -> bool {
+        match self {
+            Kind::NonceRequest => false,
+            Kind::NonceResponse => true,
+            Kind::ShareRequest => false,
+            Kind::ShareResponse => true,
+            Kind::DkgBegin => false,
+            Kind::DkgSigner => true,
+            Kind::DkgCoordinator => false,
         }
     }
 

@@ -105,6 +105,32 @@ fn seals() {
     assert!(c.process(101, Verdict::Bad, &answers(&request, 1)).unwrap().packet().is_some());
 }
 
+/// 14 of a signer that is not configured, kind by kind. Signer 0 isn't here, and a coordinator's packet has 0 in a signer's place.
+#[test]
+fn who_sealed_it() {
+    let config = Config::new(2, 3, 3).signer(with_keys(1, &[2, 3])).signer(with_keys(2, &[4]));
+    let (mut c, request) = started(&config);
+    c.set_coordinator_key(true).unwrap();
+    let head = write::Head { ids: request.ids, signature_type: FROST, message: b"a" };
+    let share_request = write::share_request(head, &[]).unwrap();
+    let packets = [
+        (write::nonce_request(head).unwrap(), false),
+        (answers_with(&request, 0, &[]), true),
+        (share_request.clone(), false),
+        (shares_with(&ShareRequest::read(&share_request).unwrap(), 0, &[]), true),
+        (dkg_packet(5, 0, 7), false),
+        (dkg_packet(6, 0, 7), true),
+        (dkg_packet(7, 0, 7), false),
+    ];
+    for (number, (packet, signers)) in (1..).zip(packets) {
+        let kind = Packet::read(&packet).unwrap().kind();
+        assert_eq!((kind.number(), kind.is_signer_kind()), (number, signers));
+        let told = if signers { Err(Refusal::Seal) } else { Ok(Answer::Nothing) };
+        assert_eq!(c.process(101, GOOD, &packet), told, "{kind}");
+        assert_eq!(c.process_message(101, GOOD, &packet), told, "{kind}");
+    }
+}
+
 /// 15
 #[test]
 fn another_key_generation() {

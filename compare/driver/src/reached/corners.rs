@@ -15,7 +15,7 @@ use crate::{
 };
 
 /// A run of some hundred thousand calls should reach each of them.
-pub const NAMES: [&str; 54] = [
+pub const NAMES: [&str; 58] = [
     "a job with the mark: every responder's shares are held",
     "a job without the mark",
     "a job with a key id twice",
@@ -48,6 +48,10 @@ pub const NAMES: [&str; 54] = [
     "a timeout drops a packet",
     "a clock that went back",
     "a packet while the timeout has fired, by process_message",
+    "14 of a signer that is not configured: kind 2",
+    "14 of a signer that is not configured: kind 4",
+    "14 of a signer that is not configured: kind 6",
+    "a coordinator's packet passes 14, signer 0 not configured",
     "Idle request with the current sign id",
     "response dropped: signer not configured",
     "response dropped: key generation not ended",
@@ -227,8 +231,25 @@ impl Corners {
         }
     }
 
+    /// Who sealed it: 14 by the kind, and not by the verdict.
+    fn sealed_by(&mut self, s: &Seen, i: &Inbound) {
+        let stranger = s.refusal() == 14 && i.verdict;
+        match i.packet[0] {
+            2 => self.corner(stranger, "14 of a signer that is not configured: kind 2"),
+            4 => self.corner(stranger, "14 of a signer that is not configured: kind 4"),
+            6 => self.corner(stranger, "14 of a signer that is not configured: kind 6"),
+            _ => {
+                let no_0 = s.c.signers.iter().all(|(id, _)| *id != 0);
+                let passed = s.c.verify_packet_sigs && !matches!(s.refusal(), 13 | 14);
+                let name = "a coordinator's packet passes 14, signer 0 not configured";
+                self.corner(no_0 && passed, name);
+            }
+        }
+    }
+
     /// A packet that passed 13 and 14.
     fn packet(&mut self, s: &Seen, i: &Inbound) {
+        self.sealed_by(s, i);
         if matches!(s.refusal(), 13 | 14) {
             return;
         }

@@ -159,18 +159,26 @@ sealAfterTimeout =
     ∷ [])
     (left9 1)
 
--- "Signer configured, for signer kinds (14)?": 0 is not configured, and the kinds of a coordinator, whose signer field is 0, pass
+-- "Signer configured, for signer kinds (14)?": 0 is not configured, and the kinds of a coordinator, whose signer field is 0, pass. Kind by
+-- kind, by either call
 abbrev pub zeroUnconfigured : Round
 zeroUnconfigured =
     round (readyOf (configuration 4 3 3 (some 10) (some 10) (signer 1 (2 ∷ 3 ∷ []) ∷ signer 2 (4 ∷ []) ∷ []) true) (1 ∷ 2 ∷ []))
-    (sends 0 m2 ⇒ refuses 14
-    ∷ sends 0 m4 ⇒ refuses 14
-    ∷ sends 0 m6 ⇒ refuses 14
-    ∷ sends 0 (dkgSigner 1 1) ⇒ nothingTold
+    (sends 0 m1 ⇒ noncesAsked (request9 1)
+    ∷ sends 0 m2 ⇒ refuses 14
     ∷ sends 0 m3 ⇒ nothingTold
+    ∷ sends 0 m4 ⇒ refuses 14
     ∷ sends 0 m5 ⇒ nothingTold
+    ∷ sends 0 m6 ⇒ refuses 14
     ∷ sends 0 m7 ⇒ nothingTold
-    ∷ sends 0 m1 ⇒ noncesAsked (request9 1)
+    ∷ processes 0 m1 ⇒ nothingTold
+    ∷ processes 0 m2 ⇒ refuses 14
+    ∷ processes 0 m3 ⇒ nothingTold
+    ∷ processes 0 m4 ⇒ refuses 14
+    ∷ processes 0 m5 ⇒ nothingTold
+    ∷ processes 0 m6 ⇒ refuses 14
+    ∷ processes 0 m7 ⇒ nothingTold
+    ∷ sends 0 (dkgSigner 1 1) ⇒ nothingTold
     ∷ [])
     (left9 1)
 
