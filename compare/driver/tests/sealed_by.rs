@@ -1,10 +1,9 @@
-//! Who sealed a message: net.rs's `Packet::verify`, unchanged, on each of its fourteen messages; then fire.rs and the
-//! library on each kind.
+//! Who sealed a message: net.rs's `Packet::verify`, unchanged, on each of its fourteen messages;
+//! then fire.rs and the library on each kind.
 
 mod common;
 use common::*;
 use compare::calls::{Answer, Commission};
-use std::collections::HashMap;
 use wsts::{
     curve::{ecdsa::PublicKey, point::Point, scalar::Scalar},
     net::*,
@@ -15,48 +14,31 @@ use wsts::{
 /// Whether kinds 1 to 7 are a signer's.
 const SIGNERS: [bool; 7] = [false, true, false, true, false, true, false];
 
-const SIGN_ID: u64 = 0;
-
-/// The signing messages, by kind: signer 0's where they are a signer's. Ids are those of a coordinator that has not signed yet.
+/// The signing messages, by kind: signer 0's where they are a signer's. Ids are those of a
+/// coordinator that has not signed yet.
 fn signing() -> [(u8, Message); 4] {
-    let (dkg_id, sign_id, sign_iter_id, signer_id) = (DKG, SIGN_ID, 0, 0);
+    let (dkg_id, sign_id, sign_iter_id, signer_id) = (DKG, 0, 0, 0);
+    let (key_ids, nonces, nonce_responses) = (vec![], vec![], vec![]);
     let (message, signature_type) = (b"a".to_vec(), SignatureType::Frost);
-    let shared = NonceRequest { dkg_id, sign_id, sign_iter_id, message: message.clone(), signature_type };
+    let asked = request(sign_id, sign_iter_id, &message);
+    let share_request = SignatureShareRequest {
+        dkg_id,
+        sign_id,
+        sign_iter_id,
+        nonce_responses,
+        message: message.clone(),
+        signature_type,
+    };
+    let response =
+        NonceResponse { dkg_id, sign_id, sign_iter_id, signer_id, key_ids, nonces, message };
+    let signature_shares = vec![];
+    let shares =
+        SignatureShareResponse { dkg_id, sign_id, sign_iter_id, signer_id, signature_shares };
     [
-        (1, Message::NonceRequest(shared)),
-        (
-            2,
-            Message::NonceResponse(NonceResponse {
-                dkg_id,
-                sign_id,
-                sign_iter_id,
-                signer_id,
-                key_ids: vec![],
-                nonces: vec![],
-                message: message.clone(),
-            }),
-        ),
-        (
-            3,
-            Message::SignatureShareRequest(SignatureShareRequest {
-                dkg_id,
-                sign_id,
-                sign_iter_id,
-                nonce_responses: vec![],
-                message,
-                signature_type,
-            }),
-        ),
-        (
-            4,
-            Message::SignatureShareResponse(SignatureShareResponse {
-                dkg_id,
-                sign_id,
-                sign_iter_id,
-                signer_id,
-                signature_shares: vec![],
-            }),
-        ),
+        (1, asked),
+        (2, Message::NonceResponse(response)),
+        (3, Message::SignatureShareRequest(share_request)),
+        (4, Message::SignatureShareResponse(shares)),
     ]
 }
 
@@ -72,17 +54,19 @@ fn key_generation() -> [(u8, Message); 3] {
 
 /// The others, with the kind that stands for them.
 fn others_of_key_generation() -> [(u8, Message); 7] {
-    let (dkg_id, signer_id) = (DKG, 0);
+    let (dkg_id, signer_id, signer_ids, key_ids) = (DKG, 0, Vec::new(), Vec::new());
+    let (comms, kex_public_key) = (vec![], Point::default());
     let kex_proof = Proof { R: Point::default(), s: Scalar::default() };
-    let kex_public_key = Point::default();
-    let comms = vec![];
+    let public = DkgPublicShares { dkg_id, signer_id, comms, kex_public_key, kex_proof };
+    let begin = DkgPrivateBegin { dkg_id, signer_ids: signer_ids.clone(), key_ids };
+    let public_done = DkgPublicSharesDone { dkg_id, signer_ids: signer_ids.clone() };
     [
-        (6, Message::DkgPublicShares(DkgPublicShares { dkg_id, signer_id, comms, kex_public_key, kex_proof })),
-        (7, Message::DkgPublicSharesDone(DkgPublicSharesDone { dkg_id, signer_ids: vec![] })),
+        (6, Message::DkgPublicShares(public)),
+        (7, Message::DkgPublicSharesDone(public_done)),
         (6, Message::DkgPublicSharesDoneAck(DkgPublicSharesDoneAck { dkg_id, signer_id })),
-        (7, Message::DkgPrivateBegin(DkgPrivateBegin { dkg_id, signer_ids: vec![], key_ids: vec![] })),
+        (7, Message::DkgPrivateBegin(begin)),
         (6, Message::DkgPrivateShares(DkgPrivateShares { dkg_id, signer_id, shares: vec![] })),
-        (7, Message::DkgPrivateSharesDone(DkgPrivateSharesDone { dkg_id, signer_ids: vec![] })),
+        (7, Message::DkgPrivateSharesDone(DkgPrivateSharesDone { dkg_id, signer_ids })),
         (6, Message::DkgPrivateSharesDoneAck(DkgPrivateSharesDoneAck { dkg_id, signer_id })),
     ]
 }
@@ -91,7 +75,8 @@ fn others_of_key_generation() -> [(u8, Message); 7] {
 #[test]
 fn fourteen_messages() {
     let nobody = PublicKeys::default();
-    let signer_0 = PublicKeys { signers: HashMap::from([(0, PublicKey(0))]), ..PublicKeys::default() };
+    let mut signer_0 = PublicKeys::default();
+    signer_0.signers.insert(0, PublicKey(0));
     let all = signing().into_iter().chain(key_generation()).chain(others_of_key_generation());
     for (kind, msg) in all {
         let p = Packet { msg, sig: vec![1] };
