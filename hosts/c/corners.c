@@ -205,18 +205,18 @@ static void loaded(void) {
 }
 
 /* A kind 1 to 7: how many parts it has at least, and whether a signer seals it. */
-typedef struct sort {
+typedef struct sender {
     uint32_t kind, parts;
-    int signers;
-} sort;
+    int is_signer;
+} sender;
 
-static const sort sorts[] = {
+static const sender senders[] = {
     {RC_KIND_NONCE_REQUEST, 2, 0}, {RC_KIND_NONCE_RESPONSE, 3, 1}, {RC_KIND_SHARE_REQUEST, 2, 0},   {RC_KIND_SHARE_RESPONSE, 0, 1},
     {RC_KIND_DKG_BEGIN, 0, 0},     {RC_KIND_DKG_SIGNER, 0, 1},     {RC_KIND_DKG_COORDINATOR, 0, 0},
 };
 
 /* A packet of that kind whose parts are empty, with that number in the signer's place. */
-static void make(sealed *p, sort of, uint32_t id, const scalar *seal) {
+static void make(sealed *p, sender of, uint32_t id, const scalar *seal) {
     static const uint8_t none[1];
     const span empty[] = {{none, 0}, {none, 0}, {none, 0}};
     const rc_packet header = {.kind = of.kind, .pairs = of.parts, .signer_id = id, .dkg_id = HOST_DKG_ID};
@@ -230,15 +230,15 @@ static void who_sealed(void) {
     static sealed p;
     begin("each kind: under a signer's seal, under the coordinator's, and of a signer that nobody configured");
     s.host.iteration = 0; /* as in these packets */
-    for (int i = 0; i < 7; i++) {
-        make(&p, sorts[i], 0, &s.host.seal);
-        expect(&s, "the coordinator's seal", host_verdict(&s.group, &p) == !sorts[i].signers);
-        make(&p, sorts[i], 0, &s.secrets[0].seal);
-        expect(&s, "signer 0's seal", host_verdict(&s.group, &p) == sorts[i].signers);
-        expect(&s, "heard where it is a signer's", host_hears(&s.host, &p.packet) == sorts[i].signers);
+    for (size_t i = 0; i < sizeof senders / sizeof senders[0]; i++) {
+        make(&p, senders[i], 0, &s.host.seal);
+        expect(&s, "the coordinator's seal", host_verdict(&s.group, &p) == !senders[i].is_signer);
+        make(&p, senders[i], 0, &s.secrets[0].seal);
+        expect(&s, "signer 0's seal", host_verdict(&s.group, &p) == senders[i].is_signer);
+        expect(&s, "heard where it is a signer's", host_hears(&s.host, &p.packet) == senders[i].is_signer);
         expect(&s, "the library has no use for it", is(take_unheard(&s, &p), RC_NOTHING, 0));
-        if (!sorts[i].signers) continue;
-        make(&p, sorts[i], 9, &s.secrets[0].seal);
+        if (!senders[i].is_signer) continue;
+        make(&p, senders[i], 9, &s.secrets[0].seal);
         expect(&s, "a stranger's", !host_verdict(&s.group, &p));
         expect(&s, "a stranger's, called good: 14", is(take_unheard(&s, &p), RC_ERROR, RC_REFUSED_SEAL));
     }

@@ -14,8 +14,8 @@ use wsts::{
 /// Whether kinds 1 to 7 are a signer's.
 const SIGNERS: [bool; 7] = [false, true, false, true, false, true, false];
 
-/// The signing messages, by kind: signer 0's where they are a signer's. Ids are those of a
-/// coordinator that has not signed yet.
+/// The signing messages, by kind: signer 0's where they are a signer's. Sign id and iteration are
+/// those of a coordinator that has not signed yet.
 fn signing() -> [(u8, Message); 4] {
     let (dkg_id, sign_id, sign_iter_id, signer_id) = (DKG, 0, 0, 0);
     let (key_ids, nonces, nonce_responses) = (vec![], vec![], vec![]);
@@ -42,7 +42,7 @@ fn signing() -> [(u8, Message); 4] {
     ]
 }
 
-/// The messages of key generation whose packets 01 lays out: of each of kinds 5 to 7 one.
+/// Of key generation's messages the one that the driver makes packets of, for each of kinds 5 to 7.
 fn key_generation() -> [(u8, Message); 3] {
     let (dkg_id, signer_ids, key_ids) = (DKG, vec![], vec![]);
     [
