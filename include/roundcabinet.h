@@ -97,7 +97,7 @@ extern "C" {
 /* This header's version: 65536 for each major, 256 for each minor, 1 for each patch number. rc_version() says the linked archive's; a host that finds
  * another one has a header and an archive that do not belong together. RC_STATE_VERSION stands in bytes 8 to 15 of a saved state; a state of another version
  * is refused with RC_REFUSED_STATE. */
-#define RC_VERSION 512u
+#define RC_VERSION 768u
 #define RC_STATE_VERSION 1
 uint32_t rc_version(void) RC_ANSWERS;
 
@@ -117,7 +117,7 @@ uint32_t rc_version(void) RC_ANSWERS;
 
 /* Stack: how much is enough for each call, in bytes, whatever path it takes (retry, job and refusals included). It is counted from where the caller's frame
  * ends: arguments that lie on the stack are in it, the caller's own frames and signal handlers are not. The deepest is known over all paths, from the
- * archive's instructions (hosts/c/depth.py: 79840, 20064, 38672 and 7888 bytes), and at least a quarter of that was added. hosts/c/stack.c makes each call on
+ * archive's instructions (hosts/c/depth.py: 79056, 20048, 38672 and 7888 bytes), and at least a quarter of that was added. hosts/c/stack.c makes each call on
  * a stack of exactly this size. A frame of more than a page touches each page from the top down: on a stack that is too small and has a guard page below it
  * the call dies there, and writes to nobody's memory. A thread of 64 KiB is too small for rc_process, and would die only once a well-formed packet comes. */
 #define RC_STACK_PROCESS (100 * 1024)   /* rc_process, rc_process_message */
@@ -240,7 +240,7 @@ typedef struct rc_answer {
     uint64_t first;  /* the first `values` of first and second count: see the numbers, rc_can_move_to and rc_aggregated */
     uint64_t second;
     uint64_t values;
-    uint64_t mark;   /* of a job: 1 where every responder's shares are held */
+    uint64_t mark;   /* of a job: 1 where it is whole, see rc_aggregated */
     uint64_t length; /* bytes written to out, from its front */
 } rc_answer;
 
@@ -323,7 +323,13 @@ rc_answer rc_process_timeout(uint8_t *state, size_t state_length, const uint8_t 
                              uint64_t clock) RC_LENT(1, 3, 5);
 
 /* The aggregator's answer to the job that is out. ok not 0: RC_RESULT with number 0, first the kind of signature (0 sign, 1 schnorr, 2 taproot), and
- * Idle. ok 0: RC_RESULT with number 23; nobody is waited for, the state stays. Asked 4, 6, 23. */
+ * Idle. ok 0: RC_RESULT with number 23; nobody is waited for, the state stays. Asked 4, 6, 23. The mark is not asked: ok is taken as it is said.
+ *
+ * The job's answer has a mark: 1 (whole) exactly where every responder's shares are held and no key id occurs twice in the job's joined list of key ids.
+ * With mark 0 no aggregator need be asked: answer 0, and look why. Shares are missing where one of the responders got 22 (20, 21): the share timeout
+ * retries, and asks everybody anew. A key id occurs twice where a signer's list names it twice, or two signers' key sets have it: the share request that went
+ * out has every list as it was sent. A retry would end the same way. So leave nonce responses that name a key twice unheard (their signer is then late, which
+ * strikes nobody), call the signer, and commission without a key in two sets. What is recorded and sent is not changed by any of this. */
 rc_answer rc_aggregated(uint8_t *state, size_t state_length, const uint8_t *store, size_t store_length, uint8_t ok) RC_LENT(1, 3);
 
 /* Idle; ended signers, records, shares, clocks and a job that is out are forgotten. Struck signers, ids, message and held keys stay. Asked 4. */

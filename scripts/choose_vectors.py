@@ -141,7 +141,7 @@ def corners(c, f, call, after):
 def job_corners(c, call):
     job = unhex(call.answer[1])
     keys = id_list(parts(job)[2])
-    yield "corner: job whole " + ("true" if call.answer[2] == "whole=1" else "false")
+    yield "corner: job whole " + ("true" if call.answer[2] == "whole=1" else "false")  # as the oracle counts: shares alone
     yield "corner: job of type %d" % job[1]
     if len(set(keys)) < len(keys):
         yield "corner: job with a key id twice"

@@ -504,6 +504,39 @@ def corners(s):
     s.timeout("late: 12", 120)
 
 
+def ended(s, label, sets, lists, shared):
+    """A round of signers 0, 1 ..: their key sets, the lists of their responses, the keys of their shares."""
+    keys = set().union(*sets)
+    s.ready(label, configured(list(enumerate(sets)), threshold=len(keys)), 100)
+    for i, keys in enumerate(lists):
+        s.process("%d lists %s" % (i, keys), 101, s.answers(i, keys=keys))
+    for i, keys in enumerate(shared):
+        s.process("%d shares %s" % (i, keys), 102, s.shares(i, keys))
+    s.aggregated("success, whatever the mark", 1)
+
+
+def marks(s):
+    """02, c): whole is yes exactly when every responder's shares are held and no key id occurs twice in the job's joined list."""
+    pair, other = [[1], [2, 3]], [[1, 2], [2, 3]]
+    ended(s, "1 lists 3, 2, 3: not whole", pair, [[1], [3, 2, 3]], pair)
+    ended(s, "1 lists 2, 3: whole", pair, pair, pair)
+    ended(s, "1 lists 2, 3 and shares 3, 2, 3: whole", pair, pair, [[1], [3, 2, 3]])
+    ended(s, "a key of two signers, once in each list: not whole", other, other, other)
+    three = [[1], [2], [1, 3]]
+    ended(s, "a key of the first and the last of three: not whole", three, three, three)
+    ended(s, "a signer without a key: whole", [[], [2, 3]], [[], [2, 3]], [[], [2, 3]])
+    same = [[1], [257, 2 ** 24 + 1, 2 ** 32 - 255]]
+    ended(s, "different keys that end in the same byte: whole", same, same, same)
+    ended(s, "one of them listed twice: not whole", same, [[1], same[1] + [257]], same)
+    ended(s, "the first key listed again by the last signer: not whole", [[1], [513, 257], [1, 769]], [[1], [513, 257], [769, 1]],
+          [[1], [513, 257], [1, 769]])
+    s.to_shares("shares missing and 1 lists 3, 2, 3: not whole", signers=(0,))
+    s.process("1 lists [3, 2, 3]", 102, s.answers(1, keys=[3, 2, 3]))
+    s.process("1 shares key 2: 22", 103, s.shares(1, [2]))
+    s.process("0 shares", 103, s.shares(0))
+    s.aggregated("failed", 0)
+
+
 def shift(s):
     """Several rounds by one coordinator."""
     four = [(0, [1, 2]), (1, [3]), (2, [4]), (3, [5])]
@@ -684,6 +717,7 @@ def main():
     refused_lines(s)
     for seed in range(40):
         chance(s, seed, 40)
+    marks(s)
     s.heading("a last line without a newline")
     s.reset("reset")
     text = "\n".join(s.script)

@@ -189,7 +189,8 @@ class Coordinator:
         shares = [p for j in responders for p in self.shares.get(j, [])]
         self.job = True
         job = self.head(32, [b"".join(p[1] for p in lists), b"".join(p[2] for p in lists)] + shares)
-        return ("job", job, all(j in self.shares for j in responders))
+        keys = form.numbers(b"".join(p[1] for p in lists))
+        return ("job", job, all(j in self.shares for j in responders) and len(set(keys)) == len(keys))
 
 
 class Site:

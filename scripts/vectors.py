@@ -115,6 +115,13 @@ def id_list(s):
     return [num(s, at, 4) for at in range(0, len(s), 4)]
 
 
+def is_whole(answer):
+    """The mark beside a job, which is ours. The trace tells whether every responder's shares are held (`whole=1`, found from the Rust's
+    fields); that no key id occurs twice is read from the bytes of the Rust's job."""
+    keys = id_list(parts(unhex(answer[1]))[2])
+    return answer[2] == "whole=1" and len(set(keys)) == len(keys)
+
+
 def packet_tokens(s):
     """A packet, its numbers as numbers."""
     kind, given = s[0], parts(s)
@@ -288,11 +295,11 @@ class Lines:
 
     def job(self, at, label, letter, tokens, c, before):
         """The Rust runs the aggregator inside the call: here the job goes out, and the aggregator's answer is a call of its own."""
-        s, whole, result = unhex(c.answer[1]), c.answer[2], c.answer[3].split("=")[1]
+        s, result = unhex(c.answer[1]), c.answer[3].split("=")[1]
         assert int(before["state"]) == SHARE_GATHER
         assert all(before[n] == c.fields[n] for n in ("dkg_id", "sign_id", "iteration", "struck"))
         answer = "job of %d bytes, whole %s, sum %s: %s" % (
-            len(s), "yes" if whole == "whole=1" else "no", self.buffer.take(s), packet_text(s))
+            len(s), "yes" if is_whole(c.answer) else "no", self.buffer.take(s), packet_text(s))
         self.line(letter, label, tokens, answer, state_text(before, True))
         failed = result == "23"
         told = "result 23" if failed else "told %d" % RESULT_KINDS[result]

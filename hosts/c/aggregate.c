@@ -12,7 +12,7 @@ typedef struct job_shares {
 } job_shares;
 
 const char *aggregate_words(aggregate_verdict v) {
-    static const char *const words[] = {"signature verified", "a responder's shares are missing",
+    static const char *const words[] = {"signature verified", "not whole: shares are missing, or a key is named twice",
                                         "not one nonce pair and one share a signer", "a share is wrong", "the sum is wrong"};
     return words[v];
 }

@@ -9,7 +9,7 @@
 
 typedef enum aggregate_verdict {
     AGGREGATED,
-    JOB_NOT_WHOLE,  /* the mark says that a responder's shares are missing */
+    JOB_NOT_WHOLE,  /* the mark says so: a responder's shares are missing, or a key is named twice */
     JOB_UNREADABLE, /* not one nonce pair and one share a signer, or keys that are not its own */
     SHARE_WRONG,    /* signer says whose */
     SUM_WRONG       /* the sums cannot be done, or the signature does not verify */

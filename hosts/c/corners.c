@@ -2,6 +2,7 @@
  * What docs/HOSTS.md says of the library's corners, tried with real signers: a line for each, and what was expected did come.
  */
 #include "layout.h"
+#include "repeats.h"
 #include "stage.h"
 
 #include <stdio.h>
@@ -145,6 +146,67 @@ static void other_keys(void) {
     end();
 }
 
+/* Signer 0's answer, its first key named again at the end of its list, and sealed by it. */
+static int repeats_key(sealed *given) {
+    char event[128];
+    uint32_t keys[RC_KEY_LIMIT];
+    const member *m = s.signers[0].self;
+    if (!answer_of(&s, 0, given, event, sizeof event)) return 0;
+    const packet own = given->packet;
+    const rc_packet h = rc_read_packet(own.bytes, own.length);
+    const span message = packet_part(span_of(&own), 0), nonces = packet_part(span_of(&own), 2);
+    memcpy(keys, m->keys, sizeof keys);
+    keys[m->key_count] = keys[0];
+    const rc_response_head head = {h.dkg_id, h.sign_id, h.sign_iter_id, h.signer_id, 0};
+    packet *to = &given->packet;
+    const rc_written w = rc_write_nonce_response(to->bytes, sizeof to->bytes, head, message.bytes, message.length, keys, m->key_count + 1,
+                                                 nonces.bytes, nonces.length);
+    return packet_written(to, w) && seal_packet(given, &s.secrets[0].seal);
+}
+
+/* Shares of a signer that signs whatever it is asked: its keys, and a scalar made up. */
+static rc_answer shares_made_up(uint32_t id) {
+    static const uint8_t z[Z_LENGTH] = {1};
+    sealed given;
+    const member *m = s.signers[id].self;
+    const rc_packet h = rc_read_packet(s.request.packet.bytes, s.request.packet.length);
+    const rc_response_head head = {h.dkg_id, h.sign_id, h.sign_iter_id, id, 0};
+    const uint32_t count = m->key_count;
+    packet *to = &given.packet;
+    const rc_written w =
+        rc_write_signature_share_response(to->bytes, sizeof to->bytes, head, &id, 1, z, sizeof z, &count, 1, m->keys, count);
+    expect(&s, "written and sealed", packet_written(to, w) && seal_packet(&given, &s.secrets[id].seal));
+    return host_take(&s.host, s.clock, &given);
+}
+
+static void key_named_twice(void) {
+    sealed given;
+    char event[128];
+    begin("a signer names a key twice: the library takes it and the job is not whole; unheard by the host, the others sign");
+    start(&s, RC_SCHNORR, "a", no_root);
+    expect(&s, "signer 0 answers", repeats_key(&given));
+    expect(&s, "not heard by the host", !host_hears(&s.host, &given.packet));
+    expect(&s, "taken by the library", is(take_unheard(&s, &given), RC_NOTHING, 0));
+    answers(&s, "2", RC_PACKET);
+    const repeat r = find_repeat(span_of(&s.request.packet));
+    expect(&s, "the share request tells who", r.found && r.first == 0 && r.second == 0);
+    expect(&s, "and which key", r.key == s.signers[0].self->keys[0]);
+    expect(&s, "no signer shares for it", !answer_of(&s, 2, &given, event, sizeof event));
+    expect(&s, "shares made up", is(shares_made_up(2), RC_NOTHING, 0));
+    const rc_answer a = shares_made_up(0);
+    expect(&s, "a job that is not whole", is(a, RC_JOB, 0) && a.mark == 0);
+    do_job(&s, &a, 0);
+    expect(&s, "no aggregator is asked", s.last.verdict == JOB_NOT_WHOLE);
+    expect(&s, "given up", host_give_up(&s.host));
+    start(&s, RC_SCHNORR, "a", no_root);
+    expect(&s, "signer 0 answers", repeats_key(&given));
+    expect(&s, "dropped", is(host_take(&s.host, s.clock, &given), RC_NOTHING, 0));
+    answers(&s, "123", RC_PACKET);
+    expect(&s, "no key twice", !find_repeat(span_of(&s.request.packet)).found);
+    answers(&s, "123", RC_JOB);
+    end();
+}
+
 static void other_keys_last(void) {
     sealed given;
     char event[128];
@@ -253,6 +315,7 @@ int main(void) {
     group_key_missing();
     job_out();
     other_keys();
+    key_named_twice();
     other_keys_last();
     late_share();
     loaded();

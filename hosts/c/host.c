@@ -1,5 +1,7 @@
 #include "host.h"
 
+#include "repeats.h"
+
 #include <string.h>
 
 #define STATE h->state, sizeof h->state
@@ -88,6 +90,7 @@ int host_hears(const host *h, const packet *p) {
     const rc_packet header = rc_read_packet(p->bytes, p->length);
     if (header.refusal != 0) return 1; /* the library says what is wrong with it */
     if (header.kind == RC_KIND_SHARE_RESPONSE) return header.sign_iter_id == h->iteration;
+    if (header.kind == RC_KIND_NONCE_RESPONSE) return !names_twice(packet_part(span_of(p), RESPONSE_KEYS));
     return is_signer_kind(header.kind);
 }
 

@@ -44,7 +44,9 @@ rc_answer host_do_job(host *h, span job, int whole, aggregation *a);
 int host_give_up(host *h);
 
 /* This host is the only coordinator, so a coordinator's packet that comes in is one of its own, played back: Idle would begin a round by
- * it. And a share of an earlier iteration, late or twice, is not for now: the library does not compare it, as fire.rs does not. */
+ * it. A share of an earlier iteration, late or twice, is not for now: the library does not compare it, as fire.rs does not. And of nonces
+ * that name a key twice no whole job comes: left unheard they cost nobody anything, since nonces that are late strike nobody, and others'
+ * keys may suffice. */
 int host_hears(const host *h, const packet *p);
 /* The packet that is to be answered: where a host starts again, the one that it had saved. */
 void host_outstanding(host *h, const packet *p);

@@ -11,6 +11,8 @@
 #include <stdint.h>
 
 enum { PACKET_LIMIT = RC_ANSWER_LENGTH, HEADER_LENGTH = 32, PAIR_LENGTH = 8 };
+enum { REQUEST_PARTS = 2 }; /* message and root, before a share request's responses */
+enum { RESPONSE_KEYS = 1 }; /* a response's key ids, after its message */
 enum { NONCE_LENGTH = 66, KEY_LENGTH = 4, Z_LENGTH = 32, SHARE_LENGTH = KEY_LENGTH + Z_LENGTH };
 
 typedef struct packet {

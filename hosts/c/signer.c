@@ -3,8 +3,6 @@
 #include <stdlib.h>
 #include <string.h>
 
-enum { REQUEST_PARTS = 2 }; /* message and root, before a share request's responses */
-
 void signer_open(signer *s, const group *g, uint32_t id, const member_secrets *secrets) {
     *s = (signer){g, group_member(g, id), *secrets, NULL};
 }
@@ -104,7 +102,7 @@ static int read_signing(signing *to, const group *g, span whole, const rc_packet
         const member *m = group_member(g, nested.signer_id);
         const span nonces = packet_part(response, 2);
         if (m == NULL || nonces.length != NONCE_LENGTH || !span_equal(packet_part(response, 0), to->message)) return 0;
-        if (!span_equal(packet_part(response, 1), (span){keys, member_keys(m, keys)})) return 0;
+        if (!span_equal(packet_part(response, RESPONSE_KEYS), (span){keys, member_keys(m, keys)})) return 0;
         if (nested.dkg_id != header->dkg_id || nested.sign_id != header->sign_id || nested.sign_iter_id != header->sign_iter_id) return 0;
         to->commitments[i].signer = m->id;
         memcpy(to->commitments[i].bytes, nonces.bytes, NONCE_LENGTH);

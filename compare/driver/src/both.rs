@@ -7,6 +7,7 @@ use crate::{
     faults::Fault,
     fire::Fire,
     library::{Library, Surplus},
+    mark,
     responses::Responses,
     same,
     signature_type::SigType,
@@ -33,6 +34,8 @@ pub struct Both {
     out: Vec<u8>,
     /// Responses and share lists that fire.rs held before the call.
     held: (usize, usize),
+    /// The mark that the library gave beside its last job.
+    pub mark: u64,
 }
 
 /// What the library has to answer: the answer and the bytes that it writes.
@@ -42,9 +45,7 @@ fn wanted(a: &Answer) -> (c::Answer, &[u8]) {
         Answer::Nothing => (none, &[]),
         Answer::Packet(b) => (c::Answer { class: c::PACKET, ..none }, b),
         Answer::Late(b) => (c::Answer { class: c::RESULT, ..none }, b),
-        Answer::Job { bytes, whole, .. } => {
-            (c::Answer { class: c::JOB, mark: *whole as u64, ..none }, bytes)
-        }
+        Answer::Job { bytes, .. } => (c::Answer { class: c::JOB, ..none }, bytes),
         Answer::Refused { number, values, is_result } => {
             let value = |i: usize| values.get(i).copied().unwrap_or(0);
             let refused = c::Answer {
@@ -63,6 +64,14 @@ fn wanted(a: &Answer) -> (c::Answer, &[u8]) {
         Answer::Outside(n) => (c::Answer { class: c::ERROR, number: *n as u32, ..none }, &[]),
     };
     (c::Answer { length: bytes.len() as u64, ..answer }, bytes)
+}
+
+/// A job's answer as fire.rs has it, and the mark; of another answer the mark stays where it is.
+fn without_mark(a: c::Answer) -> (c::Answer, u64) {
+    if a.class != c::JOB {
+        return (a, 0);
+    }
+    (c::Answer { mark: 0, ..a }, a.mark)
 }
 
 fn compare_answers(what: &str, wanted: c::Answer, given: c::Answer) -> Result<(), Difference> {
@@ -87,7 +96,7 @@ impl Both {
         let (state, store) = (library.state.bytes().to_vec(), library.store.bytes().to_vec());
         let out = library.out.bytes().to_vec();
         let (fire, responses) = (Fire::new(), Responses::new(fault));
-        Both { fire, library, responses, fault, state, store, out, held: (0, 0) }
+        Both { fire, library, responses, fault, state, store, out, held: (0, 0), mark: 0 }
     }
 
     pub fn view(&self) -> View<'_> {
@@ -112,9 +121,11 @@ impl Both {
             fault.put(&mut given, &mut self.library);
         }
         let (wanted, bytes) = wanted(&answer);
-        compare_answers("answer", wanted, given)?;
+        let (unmarked, mark) = without_mark(given);
+        compare_answers("answer", wanted, unmarked)?;
         self.written(bytes)?;
         if let Answer::Job { outcome, .. } = &answer {
+            self.marked(bytes, mark)?;
             self.aggregate(step, *outcome)?;
         }
         self.fields(step)?;
@@ -154,6 +165,16 @@ impl Both {
             return differ("answer buffer past what was written");
         }
         self.out[..bytes.len()].copy_from_slice(bytes);
+        Ok(())
+    }
+
+    /// The mark beside a job, which fire.rs has not.
+    fn marked(&mut self, job: &[u8], given: u64) -> Result<(), Difference> {
+        let wanted = mark::is_whole(self.fire.saved().expect("commissioned"), job) as u64;
+        self.mark = given;
+        if given != wanted {
+            return differ(format!("the mark of a job\n  wanted {wanted}\n  given  {given}"));
+        }
         Ok(())
     }
 

@@ -72,8 +72,8 @@ pub enum Answer {
     Packet(Vec<u8>),
     /// Kind 33 or 34.
     Late(Vec<u8>),
-    /// Kind 32 with its mark, and what the aggregator then said: 01's two steps.
-    Job { bytes: Vec<u8>, whole: bool, outcome: Outcome },
+    /// Kind 32 without a mark (mark.rs), and what the aggregator then said: 01's two steps.
+    Job { bytes: Vec<u8>, outcome: Outcome },
     /// A refusal by its number, with got and expected (16 to 18) or the signer (20 to 22). It is
     /// an `Err` of the Rust, or a `SignError` among its results.
     Refused { number: u8, values: Vec<u64>, is_result: bool },

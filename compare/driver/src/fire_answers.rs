@@ -37,21 +37,15 @@ pub fn refusal(e: &Error, is_result: bool) -> Answer {
     Answer::Refused { number, values, is_result }
 }
 
-/// The job that the stand-in aggregator noted. The mark is not the Rust's: it is found from the
-/// Rust's fields after the call.
+/// The job that the stand-in aggregator noted.
 fn job(saved: &SavedState, outcome: Outcome) -> Answer {
     let inputs = harness::take_run().expect("the aggregator ran");
-    let responders = &saved.message_nonces[&inputs.message].public_nonces;
     let ids = packet::JobIds {
         dkg_id: saved.current_dkg_id,
         sign_id: saved.current_sign_id,
         sign_iter_id: saved.current_sign_iter_id,
     };
-    Answer::Job {
-        bytes: packet::job(&ids, &inputs),
-        whole: responders.keys().all(|id| saved.signature_shares.contains_key(id)),
-        outcome,
-    }
+    Answer::Job { bytes: packet::job(&ids, &inputs), outcome }
 }
 
 fn sign_error(e: SignError, saved: &SavedState) -> Answer {

@@ -21,6 +21,7 @@ pub mod fire_fields;
 pub mod generate;
 pub mod library;
 pub mod library_fields;
+pub mod mark;
 pub mod packet;
 pub mod parse;
 pub mod probes;

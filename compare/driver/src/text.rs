@@ -104,12 +104,12 @@ pub fn answer(a: &Answer) -> String {
     match a {
         Answer::Nothing => "nothing".into(),
         Answer::Packet(bytes) | Answer::Late(bytes) => format!("packet {}", hex(bytes)),
-        Answer::Job { bytes, whole, outcome } => {
+        Answer::Job { bytes, outcome } => {
             let result = match outcome {
                 Outcome::Signed(kind) => ["sign", "schnorr", "taproot"][*kind as usize],
                 Outcome::Failed => "23",
             };
-            format!("job {} whole={} result={result}", hex(bytes), *whole as u8)
+            format!("job {} result={result}", hex(bytes))
         }
         Answer::Refused { number, values, .. } => {
             let values: String = values.iter().map(|v| format!(" {v}")).collect();

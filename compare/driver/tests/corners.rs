@@ -47,9 +47,9 @@ fn nested_responses_keep_their_sign_id() {
 fn job_below_the_sign_threshold() {
     let mut r = Round::two_records();
     assert_refused(&r.start_type(b"b", SCHNORR, Some(1)), 11, &[]);
-    let Answer::Job { bytes, whole, .. } = r.share(0, &[1]) else { panic!() };
+    let Answer::Job { bytes, .. } = r.share(0, &[1]) else { panic!() };
     // the state's type decides, not the refused start's
-    assert_eq!((bytes[1], whole), (FROST, true));
+    assert_eq!((bytes[1], r.both.mark), (FROST, 1));
     assert_eq!(packet::parts(&bytes).unwrap()[0], b"b");
 }
 

@@ -93,8 +93,8 @@ fn short_shares_are_22_and_the_job_goes_on() {
     let mut r = Round::gathering_shares(worked());
     assert_refused(&r.share(1, &[2]), 22, &[1]);
     assert_eq!(r.f().message_nonces[&b"m"[..]].sign_wait_signer_ids, [0]);
-    let Answer::Job { whole, outcome, .. } = r.share(0, &[1]) else { panic!() };
-    assert_eq!((whole, outcome), (false, Outcome::Signed(0)));
+    let Answer::Job { outcome, .. } = r.share(0, &[1]) else { panic!() };
+    assert_eq!((r.both.mark, outcome), (0, Outcome::Signed(0)));
     assert_eq!(r.f().state, IDLE);
 }
 
@@ -146,8 +146,8 @@ fn aggregator_error_keeps_the_state_and_nobody_waits() {
     let mut r = Round::gathering_shares(worked());
     r.share(0, &[1]);
     let m = Message::SignatureShareResponse(r.shares(1, &[2, 3]));
-    let Answer::Job { whole, outcome, .. } = r.send_with(m, false) else { panic!() };
-    assert_eq!((whole, outcome), (true, Outcome::Failed));
+    let Answer::Job { outcome, .. } = r.send_with(m, false) else { panic!() };
+    assert_eq!((r.both.mark, outcome), (1, Outcome::Failed));
     assert_eq!(r.f().state, SIG_SHARE_GATHER);
     assert!(r.f().message_nonces[&b"m"[..]].sign_wait_signer_ids.is_empty());
     // nobody is malicious, and the round is tried again

@@ -2,12 +2,12 @@
 -- Assumes nothing.
 use Prim.Native.Nat.{ℕ, zero, suc, _+_, _-_, _<_, _≤_}
 use mathlib.Core.Path.{_≡_, refl, sym, ap, _∙_}
-use mathlib.Core.Bool.{Bool, true, false, cond, not, _||_}
+use mathlib.Core.Bool.{Bool, true, false, cond, not}
 use mathlib.Core.List.{List, [], _∷_, map, map-append}
 use mathlib.Core.Option.{Option, some}
 use native.Mathlib.Nat.{zero-add}
 use native.Mathlib.Omega.{arith}
-use borrow.Author.Tests.{eqb-true, le-leb, leb-true, eq-eqb}
+use borrow.Author.Tests.{eqb-true, le-leb, leb-true}
 use lib.Dec.{eqb, ltb, leb}
 use lib.ListN.{length, getD, replicate, length-map, List·getD-append}
 use lib.Seq.{take-at, length-take-le}
@@ -17,6 +17,7 @@ use Rattle.layout.specs.Limits.{listLimit, signerLimit}
 use Rattle.validity.specs.Keys.{keyNumber, keyOf, keyPlaces, listed, member}
 use Rattle.step_definition.specs.Lists.{insertBy}
 use Rattle.step_definition.specs.Ids.{insertAll, distinct}
+use Rattle.step_definition.proofs.Distinct.{member-at, not-both}
 use Rattle.step_definition.specs.Configuration as D
 use Rattle.step_definition.proofs.Limited.{length-insertAll}
 use Rattle.state.specs.declared.fields.SignerEntry.{SignerEntry}
@@ -53,21 +54,6 @@ module _ (ss : List SignerEntry) where
       by false true h r = absurd (a .0 (sym (eqb-true (e .id) (x .id) h)))
       by false false h r = ap (λ (ys : List D.SignerConfig). signerIn ss x ∷ ys) r
 
--- an id that is not among ids differs from each
-member-at : (id : ℕ) (xs : List ℕ) (j : ℕ) → j < length xs → getD xs j 0 ≡ id → member id xs ≡ true
-unfolding member
-member-at id [] j l e = let z : ⊥ = omega arith in absurd z
-member-at id (x ∷ xs) zero l e = rw (eq-eqb id x (sym e))
-member-at id (x ∷ xs) (suc j) l e = by (eqb id x) (member-at id xs j (omega arith) e)
-  where
-    by : (b : Bool) → member id xs ≡ true → b || member id xs ≡ true
-    by true h = refl
-    by false h = h
-
-not-both : (b : Bool) → not b ≡ true → b ≡ true → ⊥
-not-both true p q = let z : _≡_ {A = ℕ} 0 1 = cc in omega arith
-not-both false p q = let z : _≡_ {A = ℕ} 0 1 = cc in omega arith
-
 -- the signer that an entry stands for
 abbrev signerFor : SignerEntry → D.SignerConfig
 signerFor e = record { id = entryId e; key-ids = when (e .«has_keys») (listed (e .keys)) }
@@ -87,7 +73,7 @@ collect-slots ss k (e ∷ es) h d =
     let ids = map entryId es in
     let out : not (member id ids) ≡ true = and-left _ (distinct ids) d in
     let apart : All (λ (x : SignerSlot). x .id ≡ id → ⊥) (slotsFrom (k + 1) ids) =
-    slots-all (λ (x : SignerSlot). x .id ≡ id → ⊥) (k + 1) ids (λ j l p. not-both (member id ids) out (member-at id ids j l p)) in
+    slots-all (λ (x : SignerSlot). x .id ≡ id → ⊥) (k + 1) ids (λ j l p. not-both (member id ids) out (member-at id ids j l (sym p))) in
     let rest = collect-slots ss (k + 1) es (λ j l. let n : k + suc j ≡ k + 1 + j = omega arith in rw n at (h (suc j) (omega arith))) (and-right (not (member id ids)) (distinct ids) d) in
     let first : getD ss k noEntry ≡ e = let n : k + 0 ≡ k = omega arith in rw n at (h 0 (omega arith)) in
     place-inserts ss (signerSlot id k) (slotsFrom (k + 1) ids) apart ∙ rw (rest, first)

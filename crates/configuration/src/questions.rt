@@ -3,10 +3,8 @@ ghost use mathlib.Core.Path.{_≡_};
 ghost use mathlib.Core.Bool.{true};
 ghost use mathlib.Core.List.{map};
 ghost use Prim.Native.Nat.{_≤_};
-ghost use lib.ListN.{drop};
 ghost use Rattle.wire.specs.Bytes.{every};
 ghost use Rattle.layout.specs.Limits.{listLimit, signerLimit};
-ghost use Rattle.validity.specs.Keys.{member};
 ghost use Rattle.step_definition.specs.Ids.{distinct};
 ghost use Rattle.step_definition.specs.Configuration.{question1};
 ghost use Rattle.state.specs.Counts.{sum};
@@ -18,35 +16,6 @@ use crate::new_config::NewSigner;
 use layout::LIST_LIMIT;
 use layout::SIGNER_LIMIT;
 use state::answers::Passed;
-
-// Whether the id is among those from a place on.
-fn is_among(id: u32, ids: &[u32], from: usize) -> bool
-    ensures { λ r. ⌜ r ≡ member id (drop from (now (ids .entry))) ⌝ }
-{
-    let mut j = from;
-    while j < ids.len() {
-        if id == ids[j] {
-            return true;
-        }
-        j += 1;
-    }
-    false
-}
-
-// None twice.
-fn is_distinct(ids: &[u32]) -> bool
-    ensures { λ r. ⌜ r ≡ distinct (now (ids .entry)) ⌝ }
-{
-    let mut i: usize = 0;
-    while i < ids.len() {
-        let id = ids[i];
-        i += 1;
-        if is_among(id, ids, i) {
-            return false;
-        }
-    }
-    true
-}
 
 fn are_ids_distinct(g: NewConfig) -> bool
     requires { ⌜ g .count ≤ signerLimit ⌝ }
@@ -62,7 +31,7 @@ fn are_ids_distinct(g: NewConfig) -> bool
         ids[i] = id.0;
         i += 1;
     }
-    is_distinct(&ids[..count])
+    id_lists::is_distinct(&ids[..count])
 }
 
 // At most 10 signers, ids distinct (1)?
@@ -88,7 +57,7 @@ fn are_keys_distinct(k: NewKeys) -> bool
         ids[i] = key.0;
         i += 1;
     }
-    is_distinct(&ids[..count])
+    id_lists::is_distinct(&ids[..count])
 }
 
 // At most 16 keys, none twice; no set is fine.

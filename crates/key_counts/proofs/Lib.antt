@@ -1,6 +1,5 @@
 -- Laws of the keys of the signers.
 -- Assumes nothing.
-pub mod Given
 pub mod Entries
 pub mod Sets
 pub mod Walking

@@ -17,18 +17,14 @@ use Rattle.state.specs.Counts.{entries, entryWithin}
 use Rattle.state.specs.View.{slotsOf, noEntry, noSlot}
 use Rattle.signers.specs.declared.order.Order.{Order}
 use Rattle.signers.specs.Order.{ordered}
-use Rattle.key_counts.specs.declared.keys.DifferentKeys.{DifferentKeys}
-
--- every key of every signer
-abbrev pub keyLimit : ℕ
-keyLimit = signerLimit * listLimit
+use Rattle.id_lists.specs.declared.IdList.{IdList}
 
 -- a signer's keys: none where it has no set
 unfoldable pub setOf : SignerEntry → List ℕ
 setOf e = cond (e .«has_keys») (listed (e .keys)) []
 
 -- the keys that are held are those of a list that ascends, and as many
-pub record Counted (s : DifferentKeys) (zs : List ℕ) : Type 0 where
+pub record Counted (s : IdList) (zs : List ℕ) : Type 0 where
   pub rises : Ascending zs
   pub counted : s .count ≡ length zs
   pub same : (x : ℕ) → member x (take (s .count) (s .ids)) ≡ member x zs

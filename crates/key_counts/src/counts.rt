@@ -14,8 +14,8 @@ ghost use Rattle.state.specs.View.{slotsOf, configOf, heldIn, flaggedIn};
 ghost use Rattle.signers.specs.Order.{ordered};
 ghost use Rattle.key_counts.specs.Sets.{setOf, InOrder, heldKeys, flaggedSizes};
 use crate::keys;
-use crate::keys::DifferentKeys;
-use crate::keys::KEY_LIMIT;
+use id_lists::IdList;
+use id_lists::KEY_LIMIT;
 use layout::SIGNER_LIMIT;
 use signers::order;
 use signers::order::Order;
@@ -73,7 +73,7 @@ fn held_keys(o: Order, g: Config, row: SignRoundInfo) -> usize
     let signers = g.signers;
     let slots = row.slots;
     let places = o.slots;
-    let mut set = DifferentKeys {
+    let mut set = IdList {
         ids: [0; KEY_LIMIT],
         count: 0,
     };

@@ -45,7 +45,7 @@ use library_writers::responses_written;
 use library_writers::written;
 use library_writers::written::RcWritten;
 
-const VERSION: u32 = 512;
+const VERSION: u32 = 768;
 
 // The version of the library that is linked, for a host to hold against the header's.
 #[no_mangle]

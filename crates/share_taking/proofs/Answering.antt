@@ -14,7 +14,6 @@ use Rattle.layout.specs.LaidOut.{partsFrom}
 use Rattle.framing.specs.declared.Written.{Written}
 use Rattle.framing.specs.declared.Written.the-variants.{Bytes}
 use Rattle.framing.specs.Writing.{Wrote, written}
-use Rattle.step_definition.specs.Effects.{whole}
 use Rattle.step_definition.specs.SigShareGather.{anyWaits}
 use Rattle.state.specs.declared.answers.Done.{Done}
 use Rattle.state.specs.declared.fields.Coordinator.{Coordinator}
@@ -27,7 +26,7 @@ use Rattle.state.proofs.Within.{within}
 use Rattle.state.proofs.Shape.{Shaped}
 use Rattle.shares.specs.Shares.{keptStore, keptShares}
 use Rattle.shares.proofs.Recorded.{kept-within, kept-length}
-use Rattle.signing_job.specs.SigningJob.{responses, sharesHeld, jobBytes}
+use Rattle.signing_job.specs.SigningJob.{jobBytes, jobMark}
 use Rattle.share_taking.specs.Taking.{SharesRecorded, jobTurn, Taking, takeTurn}
 
 pub message-short : (s : Coordinator) → isWithin s ≡ true → s .message .len ≤ messageLimit
@@ -36,7 +35,7 @@ message-short s w = leb-true (s .message .len) messageLimit (within s w .message
 -- the job, with the mark beside it
 pub job-did :
     (t : SignatureType) (id r : ℕ) (s : Coordinator) (store : List ℕ) (mark : Bool) {d : Done} {n : ℕ} {out out′ : List ℕ} {w : Written}
-    → mark ≡ whole (responses (slotsOf (s .config)) store r (getD (s .records .rows) r noRow)) (sharesHeld (slotsOf (s .config)) store (s .shares))
+    → mark ≡ jobMark s store r
     → d ≡ record { answer = handingAnswer mark n; after = setJob true s }
     → Wrote (written (jobBytes s store r (take (s .message .len) (s .message .bytes)) t)) out w out′ → w ≡ Bytes n → Did (jobTurn t id r s store) out d store out′
 unfolding jobTurn

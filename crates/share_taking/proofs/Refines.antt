@@ -41,7 +41,7 @@ use Rattle.shares.specs.Shares.{keptStore, keptShares}
 use Rattle.shares.proofs.Parts.{all-whole}
 use Rattle.shares.proofs.Apart.{below, shares-apart}
 use Rattle.shares.proofs.Recorded.{kept-within, shares-recorded}
-use Rattle.signing_job.specs.SigningJob.{responses, sharesHeld, jobFor}
+use Rattle.signing_job.specs.SigningJob.{responses, sharesHeld, jobFor, jobMark}
 use Rattle.signing_job.proofs.Found.{Found, found}
 use Rattle.signing_job.proofs.Viewed.{shares-viewed, job-viewed}
 use Rattle.share_taking.specs.Taking.{Taking, jobTurn, takeTurn}
@@ -126,7 +126,7 @@ module _ (t : SignatureType) (p : List ℕ) (r i : ℕ) (s : Coordinator) (store
         ∙ ap (λ (qs : List NonceResponse). jobOf t (coordinatorOf kept store′ .position .root) qs (coordinatorOf kept store′)) responders-seen
         ∙ ap (λ (x : C.Coordinator). jobOf t (x .position .root) (responders c) x) keeps
 
-    mark-same : whole (responses (slotsOf (s .config)) store′ r row) (sharesHeld (slotsOf (s .config)) store′ (kept .shares)) ≡ whole (responders c) (keeping q c .round .signature-shares)
+    mark-same : jobMark kept store′ r ≡ whole (responders c) (keeping q c .round .signature-shares)
     mark-same = rw (responders-seen, shares-viewed kept store′ r, keeps)
 
     -- a job is out then

@@ -10,7 +10,6 @@ use Rattle.layout.specs.declared.Header.{Header}
 use Rattle.layout.specs.declared.SignatureType.{SignatureType}
 use Rattle.layout.specs.LaidOut.{partsFrom}
 use Rattle.step_definition.specs.Calls as A
-use Rattle.step_definition.specs.Effects.{whole}
 use Rattle.step_definition.specs.SigShareGather.{anyWaits}
 use Rattle.state.specs.declared.fields.Coordinator.{Coordinator}
 use Rattle.state.specs.Counts.{isWithin}
@@ -19,7 +18,7 @@ use Rattle.state.specs.Setters.{setShares, setJob}
 use Rattle.state.specs.Turns.{Turn, turn}
 use Rattle.records.specs.Admits.{slotOf}
 use Rattle.shares.specs.Shares.{Shareable, keptStore, keptShares}
-use Rattle.signing_job.specs.SigningJob.{responses, sharesHeld, jobFor, jobBytes}
+use Rattle.signing_job.specs.SigningJob.{jobFor, jobBytes, jobMark}
 
 -- what is known of a removed waiter whose shares are good; id is its signer's
 pub record Taking (s : Coordinator) (store p : List ℕ) (h : Header) (r i room : ℕ) : Type 0 where
@@ -37,15 +36,12 @@ pub record SharesRecorded (s : Coordinator) (r store room : ℕ) : Type 0 where
   pub stored : storeLength ≤ store
   pub wide : answerLength ≤ room
 
--- "When the last waiter's shares are recorded, the job is written out", with "a mark, whole: yes exactly when every responder's shares
--- are held"; a job is out then. id: the last waiter's
+-- "When the last waiter's shares are recorded, the job is written out", with "a mark, whole"; a job is out then. id: the last waiter's
 unfoldable pub jobTurn : SignatureType → ℕ → ℕ → Coordinator → List ℕ → Turn
 jobTurn t id r s store =
-    let es = slotsOf (s .config) in
     let m = take (s .message .len) (s .message .bytes) in
-    let qs = responses es store r (getD (s .records .rows) r noRow) in
     record {
-      answer = A.handing (whole qs (sharesHeld es store (s .shares))) (jobBytes s store r m t);
+      answer = A.handing (jobMark s store r) (jobBytes s store r m t);
       events = A.sharesTaken id ∷ (A.jobWritten (jobFor s store r m t) ∷ []);
       after = setJob true s;
       store = store;

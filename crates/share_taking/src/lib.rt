@@ -8,7 +8,6 @@ use framing::Written;
 use layout::Header;
 use layout::SignatureType;
 use signing_job::waiters;
-use signing_job::whole;
 use state::answers;
 use state::answers::Done;
 use state::fields::Coordinator;
@@ -25,19 +24,15 @@ fn hand_job(
     ensures { λ d. ⌜ ((id : ℕ) → Did (jobTurn «signature_type» id r s (now (store .entry)))
         (now (out .entry)) d (now (store .entry)) (now (out .exit))) ⌝ }
 {
-    let config = s.config;
-    let records = s.records;
-    let row = records.rows[r];
-    let held = s.shares;
-    let mark = whole::is_whole(config, row, held);
     let message = s.message;
     let bytes = message.bytes;
     let n = message.len;
-    let written = signing_job::write_signing_job(s, store, out, r, &bytes[..n], signature_type);
+    let given = signing_job::write_signing_job(s, store, out, r, &bytes[..n], signature_type);
+    let written = given.written;
     let mut t = s;
     t.job = true;
     match written {
-        Written::Bytes(len) => answers::handing(t, mark, len),
+        Written::Bytes(len) => answers::handing(t, given.whole, len),
         // there is room, and the lists are short
         Written::Refused(_) => answers::refused(t, 7),
     }

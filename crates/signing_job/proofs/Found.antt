@@ -1,4 +1,4 @@
--- The search for a signer's shares finds those of its slot, and the mark is a test of each slot.
+-- The search for a signer's shares finds those of its slot, and that every responder's are held is a test of each slot.
 -- Assumes nothing.
 use Prim.Native.Nat.{ℕ}
 use mathlib.Core.Path.{_≡_, refl, sym, ap}
@@ -9,7 +9,7 @@ use lib.ListN.{getD}
 use Rattle.wire.specs.Bytes.{every, All}
 use Rattle.pieces.specs.Places.{responseAt}
 use Rattle.step_definition.specs.Coordinator.{SignerShares, sharesBy, sharerId}
-use Rattle.step_definition.specs.Effects.{whole}
+use Rattle.step_definition.specs.Effects.{allShared}
 use Rattle.state.specs.declared.fields.Config.{Config}
 use Rattle.state.specs.declared.fields.SignerSlot.{SignerSlot}
 use Rattle.state.specs.declared.fields.SignRoundInfo.{SignRoundInfo}
@@ -40,17 +40,19 @@ module _ (store : List ℕ) (ss : Shares) where
       (λ e i. find-in sharerId (sharesIn store (ss .slots)) shares-id e (slotsOf g) (slots-rise 0 (idsOf g)) i)
 
   module _ (r : ℕ) (row : SignRoundInfo) (held : List SignerShares) where
-    whole-in : (es : List SignerSlot) → All (Found held) es → whole (responses es store r row) held ≡ every (sharesAreHeld (row .slots) (ss .slots)) es
-    unfolding rowOf collect withSome whole every sharesAreHeld responseAt placeOf
-    whole-in [] a = refl
-    whole-in (e ∷ es) a = by (getD (row .slots) (e .slot) noSlot .held) (whole-in es (a .1))
+    shared-in : (es : List SignerSlot) → All (Found held) es
+        → allShared (responses es store r row) held ≡ every (sharesAreHeld (row .slots) (ss .slots)) es
+    unfolding rowOf collect withSome allShared every sharesAreHeld responseAt placeOf
+    shared-in [] a = refl
+    shared-in (e ∷ es) a = by (getD (row .slots) (e .slot) noSlot .held) (shared-in es (a .1))
       where
-        by : (b : Bool) → whole (responses es store r row) held ≡ every (sharesAreHeld (row .slots) (ss .slots)) es
-            → whole (withSome (when b (responseAt store (placeOf r (row .message) (row .slots) e))) (responses es store r row)) held
+        by : (b : Bool) → allShared (responses es store r row) held ≡ every (sharesAreHeld (row .slots) (ss .slots)) es
+            → allShared (withSome (when b (responseAt store (placeOf r (row .message) (row .slots) e))) (responses es store r row)) held
             ≡ cond b (getD (ss .slots) (e .slot) noShares .held) true && every (sharesAreHeld (row .slots) (ss .slots)) es
         by true h = rw (a .0, when-is (getD (ss .slots) (e .slot) noShares .held) (sharesOf store e (getD (ss .slots) (e .slot) noShares)), h)
         by false h = h
 
-  pub whole-walked : (g : Config) (r : ℕ) (row : SignRoundInfo)
-      → whole (responses (slotsOf g) store r row) (sharesHeld (slotsOf g) store ss) ≡ every (sharesAreHeld (row .slots) (ss .slots)) (slotsOf g)
-  whole-walked g r row = whole-in r row (sharesHeld (slotsOf g) store ss) (slotsOf g) (found g)
+  pub shared-walked : (g : Config) (r : ℕ) (row : SignRoundInfo)
+      → allShared (responses (slotsOf g) store r row) (sharesHeld (slotsOf g) store ss)
+      ≡ every (sharesAreHeld (row .slots) (ss .slots)) (slotsOf g)
+  shared-walked g r row = shared-in r row (sharesHeld (slotsOf g) store ss) (slotsOf g) (found g)

@@ -3,6 +3,8 @@
 pub mod Found
 pub mod Placing
 pub mod Joined
+pub mod KeyLists
+pub mod Marked
 pub mod Holding
 pub mod Writes
 pub mod Readiness

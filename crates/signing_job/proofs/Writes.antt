@@ -31,7 +31,7 @@ module _ (s : Coordinator) (store : List ℕ) (r : ℕ) (m : List ℕ) (t : Sign
   abbrev row : SignRoundInfo
   row = getD (s .records .rows) r noRow
 
-  holds : jobsHold (length store) ps ≡ true
+  pub holds : jobsHold (length store) ps ≡ true
   unfolding jobsHold
   holds =
       and-both (leb (ps .count) signerLimit) (every (jobHolds (length store)) (signersIn ps)) (le-leb (ps .count) signerLimit few)

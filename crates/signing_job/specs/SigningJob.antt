@@ -11,7 +11,7 @@ use Rattle.layout.specs.Types.{typeNumber, rootLength}
 use Rattle.layout.specs.Messages.{NonceResponse, Job}
 use Rattle.layout.specs.Encode.{encodeJob}
 use Rattle.step_definition.specs.Coordinator.{SignerShares}
-use Rattle.step_definition.specs.Effects.{joinedKeys, joinedNonces, joinedShares}
+use Rattle.step_definition.specs.Effects.{joinedKeys, joinedNonces, joinedShares, whole}
 use Rattle.state.specs.declared.fields.Coordinator.{Coordinator}
 use Rattle.state.specs.declared.fields.SignerSlot.{SignerSlot}
 use Rattle.state.specs.declared.fields.ResponseSlot.{ResponseSlot}
@@ -47,7 +47,13 @@ jobFor s store r m t =
 abbrev pub jobBytes : Coordinator → List ℕ → ℕ → List ℕ → SignatureType → List ℕ
 jobBytes s store r m t = encodeJob (jobFor s store r m t)
 
--- "whole: yes exactly when every responder's shares are held", of one signer
+-- the mark beside it
+abbrev pub jobMark : Coordinator → List ℕ → ℕ → Bool
+jobMark s store r =
+    let es = slotsOf (s .config) in
+    whole (responses es store r (getD (s .records .rows) r noRow)) (sharesHeld es store (s .shares))
+
+-- "every responder's shares are held", of one signer
 unfoldable pub sharesAreHeld : List ResponseSlot → List ShareSlot → SignerSlot → Bool
 sharesAreHeld slots ss e = cond (getD slots (e .slot) noSlot .held) (getD ss (e .slot) noShares .held) true
 

@@ -1,17 +1,18 @@
-// The mark beside a job: whether every responder's shares are held.
+// The mark beside a job: whether every responder's shares are held and no key id occurs twice in the joined list.
 ghost use mathlib.Core.Path.{_≡_};
-ghost use Prim.Native.Nat.{ℕ, _≤_};
-ghost use mathlib.Core.List.{List};
+ghost use Prim.Native.Nat.{_≤_};
+ghost use mathlib.Core.Bool.{true, _&&_};
+ghost use lib.ListN.{length};
 ghost use Rattle.wire.specs.Bytes.{every};
 ghost use Rattle.layout.specs.Limits.{signerLimit};
-ghost use Rattle.step_definition.specs.Effects.{whole};
-ghost use Rattle.state.specs.View.{slotsOf};
+ghost use Rattle.job.specs.Job.{keysOf, signersIn, jobsHold};
+ghost use Rattle.step_definition.specs.Ids.{distinct};
 ghost use Rattle.signers.specs.Order.{ordered};
-ghost use Rattle.signing_job.specs.SigningJob.{sharesAreHeld, responses, sharesHeld};
+ghost use Rattle.signing_job.specs.SigningJob.{sharesAreHeld};
+use crate::keys;
+use job::JobPlaces;
 use layout::SIGNER_LIMIT;
-use signers::order;
 use signers::order::Order;
-use state::fields::Config;
 use state::fields::Shares;
 use state::fields::SignRoundInfo;
 use state::fields::SignerSlot;
@@ -50,11 +51,17 @@ fn all_shares_held(o: Order, row: SignRoundInfo, shares: Shares) -> bool
     true
 }
 
-pub fn is_whole(g: Config, row: SignRoundInfo, shares: Shares) -> bool
-    requires { ⌜ g .count ≤ signerLimit ⌝ }
-    ensures { λ b. ⌜ ((r : ℕ) (store : List ℕ) →
-        b ≡ whole (responses (slotsOf g) store r row) (sharesHeld (slotsOf g) store shares)) ⌝ }
+// Of the signers in order, a record with the shares held, and the places of the lists that its job joins.
+pub fn is_whole(o: Order, row: SignRoundInfo, shares: Shares, source: &[u8], ps: JobPlaces) -> bool
+    requires { ⌜ (o .count ≤ signerLimit) × (jobsHold (length (now source)) ps ≡ true) ⌝ }
+    ensures { λ b. ⌜ b ≡ (every (sharesAreHeld (row .slots) (shares .slots)) (ordered o)
+        && distinct (keysOf (now (source .entry)) (signersIn ps))) ⌝ }
 {
-    let o = order::ascending(g);
-    all_shares_held(o, row, shares)
+    if !all_shares_held(o, row, shares) {
+        return false;
+    }
+    let joined = keys::joined_keys(source, ps);
+    let ids = joined.ids;
+    let count = joined.count;
+    id_lists::is_distinct(&ids[..count])
 }

@@ -5,6 +5,8 @@ pub mod Ascending
 pub mod Phases
 pub mod Verdicts
 pub mod WorkedRounds
+pub mod Distinct
+pub mod Whole
 pub mod Outcomes
 pub mod Refusals
 pub mod Malicious

@@ -20,7 +20,7 @@ use Rattle.step_definition.specs.Lists.{find, change, insertBy, first}
 use Rattle.step_definition.specs.Ids.{insertAll, remove, without, distinct, next, previous}
 use Rattle.step_definition.specs.Configuration.{question1, question2, setSizes, question3, ascendingSigners, ascending, numKeyIds}
 use Rattle.step_definition.specs.Questions.{question4, question5, question6, question7, asks, before, question9, question10, question11, fires, question12, question13, question14, question15, admitted, question19, question20, question21, question22, question24, question25}
-use Rattle.step_definition.specs.Effects.{rootFor, recvKeyIds, shareKeyIds, joinedKeys, joinedNonces, joinedShares, whole}
+use Rattle.step_definition.specs.Effects.{rootFor, recvKeyIds, shareKeyIds, joinedKeys, joinedNonces, joinedShares, allShared, whole}
 use Rattle.step_definition.specs.Starts.{startRound, idleRequest, idle}
 use Rattle.step_definition.specs.Timeouts.{nonceTimeout, shareTimeout, timeoutIn}
 use Rattle.step_definition.specs.NonceGather.{nonceVerdict, recordVerdict, onRecord, onNonces}
@@ -32,6 +32,7 @@ use Rattle.step_definition.specs.rounds.Corners.{corners}
 use Rattle.step_definition.specs.rounds.EveryCall.{commissionings, everyCall}
 use Rattle.step_definition.specs.rounds.Asked.{asked}
 use Rattle.step_definition.specs.rounds.Jobs.{jobs}
+use Rattle.step_definition.specs.rounds.Marks.{marks}
 use Rattle.step_definition.specs.rounds.Kept.{kept, opener, opened9}
 use Rattle.step_definition.specs.Coordinator.{uncommissioned, commissioned}
 use Rattle.step_definition.specs.Calls.{coordinatorKey, aggregateKey, Call, setKey, takeResults, canMove, processTimeout, aggregated}
@@ -80,6 +81,7 @@ tables :
     × (map playFrom kept ≡ kept)
     × (map count atLimits ≡ atLimits)
     × (map playRun watchedRuns ≡ watchedRuns)
+    × (map play marks ≡ marks)
     × Met
 unfolding le number joined every sameBytes entries idsIn nonceIn noncesIn shareIn responseIn requestIn shareRequestIn
     shareResponseIn messageIn responseWithin keyCount within decode headerBytes table packet idBytes nonceBytes
@@ -90,13 +92,14 @@ unfolding le number joined every sameBytes entries idsIn nonceIn noncesIn shareI
     question2 setSizes question3 ascendingSigners ascending numKeyIds question4 question5 question6 question7 asks
     before question9 question10 question11 fires question12 question13 question14 question15 admitted question19
     question20 question21 question22 question24 question25 rootFor recvKeyIds shareKeyIds joinedKeys joinedNonces
-    joinedShares whole startRound idleRequest idle nonceTimeout shareTimeout timeoutIn nonceVerdict recordVerdict
+    joinedShares allShared whole startRound idleRequest idle nonceTimeout shareTimeout timeoutIn nonceVerdict recordVerdict
     onRecord onNonces shareVerdict anyWaits takeVerdict onTake onShares messageIn′ onMessage onPacket onAggregated
     onResults own onCommission onHeld stepOf final played leftIn play playFrom rounds corners commissionings everyCall
-    asked jobs kept first plainOperation plainRequest groupKeyIn firstShareRequest orLater configWithin recordWithin
+    asked jobs marks kept first plainOperation plainRequest groupKeyIn firstShareRequest orLater configWithin recordWithin
     sharesWithin withinLimits count atLimits maliciousIn run sealed heardIn heardBy heardOn heard listen listening
     watchAfter watch watched playRun watchedRuns
 tables = (
+  refl,
   refl,
   refl,
   refl,
@@ -162,5 +165,8 @@ limit-rounds = tables .7
 pub watched-runs : map playRun watchedRuns ≡ watchedRuns
 watched-runs = tables .8
 
+pub mark-rounds : map play marks ≡ marks
+mark-rounds = tables .9
+
 pub demand-3-can-be-met : Met
-demand-3-can-be-met = tables .9
+demand-3-can-be-met = tables .10

@@ -1,6 +1,6 @@
 -- What fire.rs's functions change, and the packets that they send.
 use Prim.Native.Nat.{ℕ}
-use mathlib.Core.Bool.{Bool, false}
+use mathlib.Core.Bool.{Bool, false, _&&_}
 use mathlib.Core.List.{List, [], _∷_, _++_}
 use mathlib.Core.Option.{some}
 use lib.ListN.{take}
@@ -11,7 +11,7 @@ use Rattle.layout.specs.Messages.{Nonce, SignatureShare, NonceRequest, NonceRes
 use Rattle.state_table.specs.declared.State.the-variants.{Idle, NonceGather, SigShareGather}
 use Rattle.state_table.specs.States.{position}
 use Rattle.step_definition.specs.Lists.{isSome, given, insertBy}
-use Rattle.step_definition.specs.Ids.{insertAll, next}
+use Rattle.step_definition.specs.Ids.{insertAll, distinct, next}
 use Rattle.step_definition.specs.Configuration.{Config, keysIn, keySet}
 use Rattle.step_definition.specs.Coordinator.{Coordinator, SignerShares, sharesBy, sharerId, addResponse, removeWaiter}
 use Rattle.step_definition.specs.Coordinator.{noClocks, withPosition, withRecords, withShares, withEnded, withClocks, withJob, withIteration}
@@ -91,9 +91,13 @@ jobOf t root qs c =
       signature-shares = joinedShares qs (c .round .signature-shares);
     }
 
--- "whole: yes exactly when every responder's shares are held"
+-- every responder's shares are held
+unfoldable pub allShared : List NonceResponse → List SignerShares → Bool
+allShared qs held = every (λ (q : NonceResponse). isSome (sharesBy (q .signer-id) held)) qs
+
+-- 02, c): "whole is yes exactly when every responder's shares are held and no key id occurs twice in the job's joined list"
 unfoldable pub whole : List NonceResponse → List SignerShares → Bool
-whole qs held = every (λ (q : NonceResponse). isSome (sharesBy (q .signer-id) held)) qs
+whole qs held = allShared qs held && distinct (joinedKeys qs)
 
 -- "`reset` empties `dkg_end_messages`, records, shares and clocks and keeps the struck list, ids, message and group key. Here it also
 -- drops a job that is out": in two steps, one after the other

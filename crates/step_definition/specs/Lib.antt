@@ -10,6 +10,7 @@ pub mod Phases
 pub mod Questions
 pub mod Counts
 pub mod Effects
+pub mod Whole
 pub mod Starts
 pub mod Timeouts
 pub mod NonceGather

@@ -5,5 +5,6 @@ pub mod EveryCall
 pub mod Asked
 pub mod Kept
 pub mod Jobs
+pub mod Marks
 pub mod AtLimits
 pub mod Runs

@@ -50,7 +50,7 @@ entry-at w (suc k) zero s h = rw (mul-zero w)
 entry-at w (suc k) (suc i) s h = rw (entry-at w k i (drop w s) (omega arith), drop-drop, mul-suc, add-comm w (w * i))
 
 -- the ith id
-id-at : (s : List ℕ) (i : ℕ) → i < length s / 4 → getD (idsIn s) i 0 ≡ numberAt 4 (4 * i) s
+pub id-at : (s : List ℕ) (i : ℕ) → i < length s / 4 → getD (idsIn s) i 0 ≡ numberAt 4 (4 * i) s
 unfolding idsIn number
 id-at s i h = List·getD-map number (entries 4 (length s / 4) s) i [] ∙ ap number (entry-at 4 (length s / 4) i s h)
 

@@ -20,7 +20,10 @@ pub enum Answer {
     Job {
         /// The job, kind 32: see [`Job`](crate::Job).
         packet: Vec<u8>,
-        /// Whether every responder's shares are held. Without them all no signature can come of it.
+        /// Whether every responder's shares are held and no key id occurs twice in the job's joined list. Where it is not whole no
+        /// aggregator need be asked: answer `false`. Shares are missing where a signer's were refused (20 to 22): the share timeout
+        /// retries. A key that occurs twice would do so again after a retry:
+        /// [`ShareRequest::key_named_twice`](crate::ShareRequest::key_named_twice) says who named it.
         whole: bool,
     },
     /// Nonces were late. The round stays as it is.

@@ -156,6 +156,12 @@ impl NonceRequest {
 }
 
 impl NonceResponse {
+    /// Whether its list names a key twice. The library records such a response, as fire.rs does, and a job that joins it is not whole. A
+    /// host may leave it unheard: its signer is then late with its nonces, which leaves nobody out.
+    pub fn names_key_twice(&self) -> bool {
+        self.key_ids.iter().enumerate().any(|(i, key)| self.key_ids[..i].contains(key))
+    }
+
     /// Reads a packet of kind 2. Refused with 8 or 9; any other kind with 8.
     pub fn read(bytes: &[u8]) -> Result<NonceResponse, Refusal> {
         match Contents::read(bytes)? {
@@ -166,6 +172,17 @@ impl NonceResponse {
 }
 
 impl ShareRequest {
+    /// The first key that is named twice, and who named it: one signer, whose own list names it twice, or two, whose key sets both
+    /// have it. A job of this request will not be whole then.
+    pub fn key_named_twice(&self) -> Option<(KeyId, SignerId, SignerId)> {
+        let named: Vec<(KeyId, SignerId)> =
+            self.responses.iter().flat_map(|r| r.key_ids.iter().map(|key| (*key, r.signer))).collect();
+        let earlier = |(i, (key, second)): (usize, &(KeyId, SignerId))| {
+            named[..i].iter().find(|(other, _)| other == key).map(|(_, first)| (*key, *first, *second))
+        };
+        named.iter().enumerate().find_map(earlier)
+    }
+
     /// Reads a packet of kind 3. Refused with 8 or 9; any other kind with 8.
     pub fn read(bytes: &[u8]) -> Result<ShareRequest, Refusal> {
         match Contents::read(bytes)? {

@@ -16,6 +16,9 @@
 //!   Hand on no coordinator's packet ([`Kind`] 1, 3, 5, 7), unless this host stands by for another coordinator; then look at what it is
 //!   asked to sign.
 //!
+//! A job says whether it is whole ([`Answer::Job`]). Of nonces that name a key twice no whole job comes, so a host does well to leave
+//! such a [`NonceResponse`] unheard ([`NonceResponse::names_key_twice`]).
+//!
 //! And a start belongs into Idle alone: ask [`Coordinator::is_idle`] before [`Coordinator::start_signing_round`].
 //!
 //! A whole round, with two signers of three keys:

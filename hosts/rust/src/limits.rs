@@ -22,7 +22,7 @@ pub const STATE_VERSION: u32 = 1;
 /// The version of the archive that is linked: 65536 for each major, 256 for each minor, 1 for each patch number.
 ///
 /// ```
-/// assert_eq!(roundcabinet::version(), 512); // 0.2.0
+/// assert_eq!(roundcabinet::version(), 768); // 0.3.0
 /// ```
 pub fn version() -> u32 {
     crate::ffi::version()

@@ -13,11 +13,14 @@ fn signers(r: &mut Rng) -> Signers {
     }
     r.shuffle(&mut ids);
     let spread = r.within(2, 20) as u32;
-    let first = *r.pick(&[0, 1, 1, 1, u32::MAX - 40]);
+    let first: u32 = *r.pick(&[0, 1, 1, 1, u32::MAX - 40]);
+    // 256: different keys whose numbers end in the same byte
+    let apart = *r.pick(&[1, 1, 1, 1, 256]);
     let mut signers = Vec::new();
     for id in ids.into_iter().take(count) {
         let size = *r.pick(&[0, 1, 1, 1, 2, 2, 2, 3, 3, 4, 16]);
-        let mut keys: Vec<u32> = (0..spread.max(size as u32)).map(|k| first + k).collect();
+        let mut keys: Vec<u32> =
+            (0..spread.max(size as u32)).map(|k| first.wrapping_add(apart * k)).collect();
         r.shuffle(&mut keys);
         keys.truncate(size);
         signers.push((id, if r.percent(8) { None } else { Some(keys) }));

@@ -1,7 +1,7 @@
 //! Corners of a call that its answer alone does not show, found from what fire.rs held before and
 //! after it.
 
-use std::collections::BTreeMap;
+use std::collections::{BTreeMap, BTreeSet};
 
 use wsts::{
     net::{Message, NonceResponse, SignatureShareResponse},
@@ -10,15 +10,21 @@ use wsts::{
 
 use crate::{
     calls::{Answer, Call, Commission, Inbound, Outcome, Step},
-    clock, packet,
+    clock,
+    mark::{all_shared, has_twice, key_ids},
+    packet,
     states::{IDLE, NONCE_GATHER, SIG_SHARE_GATHER},
 };
 
 /// A run of some hundred thousand calls should reach each of them.
-pub const NAMES: [&str; 58] = [
-    "a job with the mark: every responder's shares are held",
-    "a job without the mark",
-    "a job with a key id twice",
+pub const NAMES: [&str; 62] = [
+    "a job with the mark",
+    "a job without the mark: shares are missing, no key id twice",
+    "a job without the mark: a key id twice, all shares held",
+    "a job without the mark: both",
+    "a job with a key id twice in one list",
+    "a job with a key id in two lists",
+    "a job with two key ids that end in the same byte",
     "a job with fewer keys than sign_threshold",
     "a job with a Taproot root",
     "the aggregator succeeds: sign",
@@ -92,10 +98,6 @@ pub struct Seen<'a> {
     pub state: u8,
 }
 
-fn has_twice(ids: &[u32]) -> bool {
-    ids.iter().enumerate().any(|(i, id)| ids[..i].contains(id))
-}
-
 impl Seen<'_> {
     /// Elapsed and timeout of the state's clock.
     fn elapsed(&self) -> Option<(u64, u64)> {
@@ -141,8 +143,9 @@ impl Corners {
     }
 
     pub fn look(&mut self, s: &Seen) {
-        if let Answer::Job { bytes, whole, outcome } = s.answer {
-            self.job(s, bytes, *whole, *outcome);
+        if let Answer::Job { bytes, outcome } = s.answer {
+            self.mark(s, bytes);
+            self.job(s, bytes, *outcome);
         }
         if let Answer::Packet(bytes) = s.answer {
             let wrapped = bytes[0] == 1 && s.after.current_sign_iter_id == 0;
@@ -170,13 +173,30 @@ impl Corners {
         }
     }
 
-    fn job(&mut self, s: &Seen, bytes: &[u8], whole: bool, outcome: Outcome) {
-        self.corner(whole, "a job with the mark: every responder's shares are held");
-        self.corner(!whole, "a job without the mark");
+    fn mark(&mut self, s: &Seen, job: &[u8]) {
+        let (shared, ids) = (all_shared(s.after, job), key_ids(job));
+        let twice = has_twice(&ids);
+        self.corner(shared && !twice, "a job with the mark");
+        let name = "a job without the mark: shares are missing, no key id twice";
+        self.corner(!shared && !twice, name);
+        let name = "a job without the mark: a key id twice, all shares held";
+        self.corner(shared && twice, name);
+        self.corner(!shared && twice, "a job without the mark: both");
+        let message = packet::parts(job).expect("a packet")[0];
+        let lists = || s.after.message_nonces[message].public_nonces.values().map(|r| &r.key_ids);
+        self.corner(lists().any(|l| has_twice(l)), "a job with a key id twice in one list");
+        let sets = lists().flat_map(|l| l.iter().copied().collect::<BTreeSet<u32>>());
+        let shares_a_key = has_twice(&sets.collect::<Vec<u32>>());
+        self.corner(shares_a_key, "a job with a key id in two lists");
+        let apart: BTreeSet<u32> = ids.iter().copied().collect();
+        let last: BTreeSet<u32> = apart.iter().map(|id| id % 256).collect();
+        let name = "a job with two key ids that end in the same byte";
+        self.corner(last.len() < apart.len(), name);
+    }
+
+    fn job(&mut self, s: &Seen, bytes: &[u8], outcome: Outcome) {
         self.corner(bytes[1] == 3, "a job with a Taproot root");
-        let part = packet::parts(bytes).expect("a packet")[2];
-        let mut keys: Vec<u32> = (0..part.len() / 4).map(|i| packet::u32_at(part, 4 * i)).collect();
-        self.corner(has_twice(&keys), "a job with a key id twice");
+        let mut keys = key_ids(bytes);
         keys.sort();
         keys.dedup();
         let few = (keys.len() as u64) < s.c.sign_threshold as u64;

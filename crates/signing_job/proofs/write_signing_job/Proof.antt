@@ -10,7 +10,20 @@ use Rattle.job.specs.Job.{signersIn}
 use Rattle.state.specs.Slots.{collect}
 use Rattle.state.specs.View.{slotsOf, noRow}
 use Rattle.signing_job.specs.Places.{jobPlaceIn}
-use Rattle.signing_job.proofs.Writes.{writes}
+use Rattle.signing_job.proofs.Writes.{holds, writes}
+use Rattle.signing_job.proofs.Marked.{mark-walked}
+
+-- the places are those of the record's responders
+walked : (c : tie.After-job-places)
+    → let after-ascending = c .before .before .before .before in
+    let a = after-ascending .before .before .before .before .before .args in
+    signersIn (c .job-places .result)
+    ≡ collect (jobPlaceIn (a .r) (getD (a .s .records .rows) (a .r) noRow) (a .s .shares)) (slotsOf (a .s .config))
+walked c =
+    let after-ascending = c .before .before .before .before in
+    let a = after-ascending .before .before .before .before .before .args in
+    let f = jobPlaceIn (a .r) (getD (a .s .records .rows) (a .r) noRow) (a .s .shares) in
+    c .job-places .ensures .0 ∙ ap (collect f) (after-ascending .ascending .ensures .0)
 
 ascending-requires : tie.Need-ascending-requires
 ascending-requires c κs = c .before .before .before .before .pre .signers
@@ -27,6 +40,16 @@ job-places-requires c κs =
     let start = after-ascending .before .before .before .before .before in
     (omega (arith, start .pre .row), after-ascending .ascending .ensures .1)
 
+is-whole-requires : tie.Need-is-whole-requires
+is-whole-requires c κs =
+    let after-ascending = c .before .before .before .before in
+    let start = after-ascending .before .before .before .before .before in
+    let a = start .args in (
+      after-ascending .ascending .ensures .1,
+      holds (a .s) (a .store .now) (a .r) (a .message .now) (a .signature-type) (length (a .out .now)) (start .pre)
+          (c .job-places .result) (c .job-places .ensures .1) (walked c),
+    )
+
 write-job-requires : tie.Need-write-job-requires
 write-job-requires c κs = tt
 
@@ -35,18 +58,19 @@ same-length c = search needs
 
 returns : tie.Need-returns
 returns c =
-    let after-job-places = c .before .before .before .before .before .before .before in
+    let after-write-job = c .before .before in
+    let after-is-whole = after-write-job .before .before .before .before .before in
+    let after-job-places = after-is-whole .before in
     let after-ascending = after-job-places .before .before .before .before in
     let start = after-ascending .before .before .before .before .before in
     let a = start .args in
-    let places = after-job-places .job-places in
-    let in-order = after-ascending .ascending .ensures .0 in
-    let f = jobPlaceIn (a .r) (getD (a .s .records .rows) (a .r) noRow) (a .s .shares) in
-    let walked : signersIn (places .result) ≡ collect f (slotsOf (a .s .config)) =
-    places .ensures .0 ∙ ap (collect f) in-order in
-    rw
-    (← writes (a .s) (a .store .now) (a .r) (a .message .now) (a .signature-type) (length (a .out .now)) (start .pre)
-    (places .result) (places .ensures .1) walked) (c .before .before .write-job .ensures)
+    let places = after-job-places .job-places in (
+      rw
+          (← writes (a .s) (a .store .now) (a .r) (a .message .now) (a .signature-type) (length (a .out .now)) (start .pre)
+          (places .result) (places .ensures .1) (walked after-job-places)) (after-write-job .write-job .ensures),
+      after-is-whole .is-whole .ensures
+          ∙ rw (mark-walked (a .s) (a .store .now) (a .r), after-ascending .ascending .ensures .0, walked after-job-places),
+    )
 
 pub write-signing-job-spec : {M : Type 1} → statement M
 write-signing-job-spec =
@@ -56,6 +80,7 @@ write-signing-job-spec =
     mul-row
     element-copy-out-row
     job-places-requires
+    is-whole-requires
     write-job-requires
     same-length
     returns)

@@ -1,4 +1,4 @@
--- Whole rounds to their end, under each signature type; the mark; and kinds 32 to 34 byte by byte ("Packet layout").
+-- Whole rounds to their end, under each signature type; shares that are missing or empty; kinds 32 to 34 byte by byte ("Packet layout").
 use Prim.Native.Nat.{ℕ}
 use mathlib.Core.Bool.{true, false}
 use mathlib.Core.List.{List, [], _∷_, _++_}
@@ -55,11 +55,10 @@ retryKeepsRoot =
 abbrev pub rootDropped : Round
 rootDropped = round ready (starts 0 nine Schnorr root none ⇒ noncesAsked (request (ids 1) nine Schnorr []) ∷ []) (left9 1)
 
--- "a mark, whole: yes exactly when every responder's shares are held": of three one is refused. "lists are each signer's list, joined in
--- ascending signer id", as sent
+-- "every responder's shares are held": of three one is refused. "lists are each signer's list, joined in ascending signer id", as sent
 abbrev pub oneOfThree : Round
 oneOfThree =
-    let one = responseOf (ids 1) 1 nine (3 ∷ 2 ∷ 3 ∷ []) (good ∷ good ∷ []) in
+    let one = responseOf (ids 1) 1 nine (3 ∷ 2 ∷ []) (good ∷ good ∷ []) in
     let s1 = share 9 (3 ∷ []) ∷ share 8 (2 ∷ []) ∷ [] in
     round (begunOf (configuration 4 3 4 (some 10) (some 10) three true) (0 ∷ 1 ∷ 2 ∷ []))
     (answers 0 q2 ⇒ recordedOf 2
@@ -69,7 +68,7 @@ oneOfThree =
     ∷ sends 0 (sharesOf (ids 1) 1 s1) ⇒ takenOf 1
     ∷ shares0
     ⇒ jobGiven 0 false
-    (jobOf (ids 1) nine Frost [] (1 ∷ 3 ∷ 2 ∷ 3 ∷ 4 ∷ []) (good ∷ good ∷ good ∷ good ∷ []) (share 0 (1 ∷ []) ∷ s1))
+    (jobOf (ids 1) nine Frost [] (1 ∷ 3 ∷ 2 ∷ 4 ∷ []) (good ∷ good ∷ good ∷ good ∷ []) (share 0 (1 ∷ []) ∷ s1))
     ∷ [])
     (left9 1)
 

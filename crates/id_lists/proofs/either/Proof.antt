@@ -1,7 +1,7 @@
 -- `either`.
 -- Assumes nothing.
-use Rattle.key_counts.proofs.keys.either.Statement.{statement}
-use Rattle.key_counts.proofs.keys.either.Tie as tie
+use Rattle.id_lists.proofs.either.Statement.{statement}
+use Rattle.id_lists.proofs.either.Tie as tie
 use borrow.Author.Tests.{eq-eqb, ne-eqb}
 
 returns : tie.Need-returns

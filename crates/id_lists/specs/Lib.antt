@@ -1,0 +1,2 @@
+-- How long a list of ids can be.
+pub mod KeyLimit
