@@ -38,7 +38,8 @@
  *   - the verdict on a packet's seal (signature), and that other points and scalars than identity and generator are what they claim to be;
  *   - clock readings in nanoseconds that do not go back (a reading that does counts as no time elapsed);
  *   - it signs what it sends, and sends a packet only after state and store are safe;
- *   - two duties that fire.rs does not have: a share's iteration, and requests played back (see rc_process);
+ *   - two duties that fire.rs does not have: a share's iteration, and requests played back (see rc_process). Nonces that name a key twice are taken as
+ *     fire.rs takes them, and a host does well not to hand them on (see rc_aggregated);
  *   - enough stack (RC_STACK below).
  *
  * THREADS. The library has no data of its own that can be written, and no locks: separate buffers may be used from separate threads at once (hosts/c/threads.c
