@@ -1,9 +1,10 @@
 #!/usr/bin/env python3
 """Writes crates/bench/stdin and crates/bench/stdout: the cases of the host's test program for Bench, and what it must print.
 
-The model below is written from document 01 ("Packet layout", questions 7 to 9, "The table of states") and from document 02's a), and shares
-no code with the crates. Run from the repository's root; both files are committed, so nothing needs this script to pass.
+The model below is written from document 01 ("Packet layout", questions 7 to 9, "The table of states") and from document 02's a) and d),
+and shares no code with the crates. Run from the repository's root; both files are committed, so nothing needs this script to pass.
 """
+import itertools
 import random
 import re
 
@@ -464,7 +465,9 @@ def move(prev, nxt, ptype=0, ntype=0, proot=0, nroot=0, label=None):
 
 
 def keys(label, list_, set_):
-    case("K", label, "%02x " % (4 * len(list_)) + " ".join("4:%d" % k for k in list_ + set_), "yes" if set(list_[:16]) == set(set_[:16]) else "no")
+    told = "yes" if set(list_[:16]) == set(set_[:16]) else "no"
+    repeats = sum(1 for i, k in enumerate(list_[:16]) if k in list_[:i])
+    case("K", label, "%02x " % (4 * len(list_)) + " ".join("4:%d" % k for k in list_ + set_), "%s, repeats %d" % (told, repeats))
 
 
 def main():
@@ -593,6 +596,21 @@ def main():
     keys("no key against none", [], [])
     keys("no key against 1", [], [1])
     keys("sixteen keys, reversed", list(range(16)), list(range(16))[::-1])
+    keys("keys 3 3 3 against 1", [3, 3, 3], [1])
+    keys("keys 5 5 against 1", [5, 5], [1])
+    keys("keys 2 3 against 2 3", [2, 3], [2, 3])
+    keys("sixteen times one key", [7] * 16, [7])
+    keys("seventeen times one key: the first sixteen count", [7] * 17, [7])
+    keys("sixteen keys, then one of them: the first sixteen count", list(range(16)) + [0], list(range(16)))
+    keys("eight keys twice", list(range(8)) * 2, list(range(8)))
+    keys("the last key is the first", list(range(15)) + [0], list(range(15)))
+    keys("sixteen keys that end in the same byte", [256 * k for k in range(16)], [256 * k for k in range(16)])
+    keys("eight of them twice", [256 * (k % 8) for k in range(16)], [256 * k for k in range(8)])
+    keys("a set with a key twice", [3], [3, 3])
+    # every list of up to four entries of 1, 2 and 257, which ends as 1 does
+    for n in range(5):
+        for list_ in itertools.product((1, 2, 257), repeat=n):
+            keys("keys %s against 1 257" % " ".join(map(str, list_)), list(list_), [1, 257])
     # every pair of states, the Rust's own walk (coordinator/mod.rs, coordinator_state_machine) among them
     for prev in STATES:
         for nxt in STATES:

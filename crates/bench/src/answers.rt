@@ -62,7 +62,9 @@ fn set_in(s: &[u8]) -> KeyIds {
 }
 
 fn compare(s: &[u8]) {
-    yes_or_no(validity::keys::compare(list_in(s), set_in(s)).same);
+    let found = validity::keys::compare(list_in(s), set_in(s));
+    yes_or_no(found.same);
+    print::field(b", repeats ", found.repeats as u64);
 }
 
 // A state: its number and its type; a third byte is the last of its root.

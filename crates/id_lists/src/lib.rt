@@ -1,16 +1,16 @@
-// Lists of ids in an array: read from a packet's part, an id looked for among them, and whether one is there twice.
+// Lists of ids in an array: an id looked for among them, whether one is there twice, and lists joined that share no key.
 ghost use mathlib.Core.Path.{_≡_};
-ghost use Prim.Native.Nat.{_+_, _/_, _≤_, _<_};
-ghost use mathlib.Core.Bool.{false, _||_};
+ghost use Prim.Native.Nat.{_≤_};
+ghost use mathlib.Core.Bool.{true, false, _||_};
 ghost use lib.Dec.{eqb};
-ghost use lib.ListN.{length, getD, take};
-ghost use Rattle.wire.specs.Bytes.{put};
-ghost use Rattle.layout.specs.Decode.{idsIn};
-ghost use Rattle.validity.specs.Keys.{member};
+ghost use lib.ListN.{length, take};
+ghost use Rattle.validity.specs.Keys.{listed, member, disjoint};
 ghost use Rattle.step_definition.specs.Ids.{distinct};
-use layout::ID_LENGTH;
+ghost use Rattle.id_lists.specs.Adding.{Adding, Added};
 use layout::LIST_LIMIT;
 use layout::SIGNER_LIMIT;
+use validity::ids::LAST_BYTES;
+use validity::keys::KeyIds;
 
 // Room for every key of every signer.
 pub const KEY_LIMIT: usize = SIGNER_LIMIT * LIST_LIMIT;
@@ -19,22 +19,6 @@ pub const KEY_LIMIT: usize = SIGNER_LIMIT * LIST_LIMIT;
 pub struct IdList {
     pub ids: [u32; KEY_LIMIT],
     pub count: usize,
-}
-
-// How many last bytes an id can have.
-const LAST_BYTES: usize = 256;
-
-// The ids of a part, four bytes each, put into the array from a place on.
-pub fn read_ids(ids: &mut [u32], at: usize, part: &[u8])
-    requires { ⌜ at + length (now part) / 4 ≤ length (now ids) ⌝ }
-    ensures { λ _. ⌜ now (ids .exit) ≡ put (now (ids .entry)) at (idsIn (now (part .entry))) ⌝ }
-{
-    let count = part.len() / ID_LENGTH;
-    let mut i: usize = 0;
-    while i < count {
-        ids[at + i] = wire::u32_at(part, ID_LENGTH * i);
-        i += 1;
-    }
 }
 
 // Whether one more id is the one that is looked for.
@@ -58,29 +42,52 @@ pub fn contains(ids: &[u32], count: usize, id: u32) -> bool
     found
 }
 
-// Whether the id at a place is among those before it; they are looked through only where that may be.
-fn is_repeat(ids: &[u32], i: usize, may_be: bool) -> bool
-    requires { ⌜ (i < length (now ids)) × («may_be» ≡ false → member (getD (now ids) i 0) (take i (now ids)) ≡ false) ⌝ }
-    ensures { λ r. ⌜ r ≡ member (getD (now (ids .entry)) i 0) (take i (now (ids .entry))) ⌝ }
+// Whether an id is among the first `count`; they are looked through only where that may be.
+fn is_among(ids: &[u32], count: usize, id: u32, may_be: bool) -> bool
+    requires { ⌜ (count ≤ length (now ids)) × («may_be» ≡ false → member id (take count (now ids)) ≡ false) ⌝ }
+    ensures { λ r. ⌜ r ≡ member id (take count (now (ids .entry))) ⌝ }
 {
     if !may_be {
         return false;
     }
-    contains(ids, i, ids[i])
+    contains(ids, count, id)
 }
 
-// None twice. An id can be a repeat only of one with the same last byte, so most are told apart without looking through the others.
+// None twice.
 pub fn is_distinct(ids: &[u32]) -> bool
     ensures { λ r. ⌜ r ≡ distinct (now (ids .entry)) ⌝ }
 {
     let mut seen = [false; LAST_BYTES];
     let mut i: usize = 0;
     while i < ids.len() {
-        let last = (ids[i] as usize) % LAST_BYTES;
-        if is_repeat(ids, i, seen[last]) {
+        let last = validity::ids::last_byte(ids[i]);
+        if is_among(ids, i, ids[i], seen[last]) {
             return false;
         }
         seen[last] = true;
+        i += 1;
+    }
+    true
+}
+
+// The keys of a list put after the first `count` ids, and whether none of them is among those: at the first that is, the rest is left.
+// `seen` notes the last bytes of those that are there.
+pub fn add_new_keys(ids: &mut [u32], count: usize, seen: &mut [bool], list: KeyIds) -> bool
+    requires { ⌜ Adding (now ids) count (now seen) list ⌝ }
+    ensures { λ r. ⌜ (r ≡ disjoint (take count (now (ids .entry))) (listed list))
+        × (r ≡ true → Added (now (ids .entry)) count (now (ids .exit)) (now (seen .exit)) list) ⌝ }
+{
+    let given = list.ids;
+    let more = list.count;
+    let mut i: usize = 0;
+    while i < more {
+        let key = given[i];
+        let byte = validity::ids::last_byte(key.0);
+        if is_among(ids, count, key.0, seen[byte]) {
+            return false;
+        }
+        ids[count + i] = key.0;
+        seen[byte] = true;
         i += 1;
     }
     true

@@ -6,11 +6,12 @@ use mathlib.Core.Bool.{Bool, true, false, cond}
 use mathlib.Core.List.{List, [], _∷_}
 use mathlib.Core.Option.{some, none}
 use native.Mathlib.Omega.{arith}
-use borrow.Author.Tests.{eq-eqb, ltb-true, ltb-false}
+use borrow.Author.Tests.{ltb-true, ltb-false}
 use lib.Dec.{ltb}
 use lib.ListN.{length, set, getD, length-set, length-replicate}
-use Rattle.wire.specs.Bytes.{sameBytes, put, All}
+use Rattle.wire.specs.Bytes.{put, All}
 use Rattle.wire.proofs.Buffer.{length-put}
+use Rattle.wire.proofs.SameBytes.{same-self}
 use Rattle.layout.specs.Limits.{signerLimit, recordLimit}
 use Rattle.layout.specs.declared.Ids.{Ids}
 use Rattle.layout.specs.Messages.{NonceResponse}
@@ -38,11 +39,6 @@ use Rattle.share_request.specs.Asking.{Known}
 use Rattle.nonce_gather.specs.NonceGather.{NoncesGathering, ResponseRecorded}
 
 -- after a response was put in, its message has a record
-same-self : (m : List ℕ) → sameBytes m m ≡ true
-unfolding sameBytes
-same-self [] = refl
-same-self (x ∷ xs) = rw (eq-eqb x x refl, same-self xs)
-
 never : {A B : Type 0} {a : A} → some a ≡ none → B
 never e = let z : _≡_ {A = ℕ} 0 1 = cc in let f : ⊥ = omega arith in absurd f
 

@@ -8,6 +8,7 @@ use native.Mathlib.Nat.{add-zero}
 use native.Mathlib.Omega.{arith}
 use lib.ListN.{length, getD, set, take, length-take}
 use Rattle.wire.specs.Bytes.{sameBytes, All}
+use Rattle.wire.proofs.SameBytes.{same-is}
 use Rattle.layout.specs.Limits.{signerLimit, recordLimit}
 use Rattle.layout.specs.declared.Ids.{Ids}
 use Rattle.layout.specs.Messages.{NonceResponse}
@@ -20,7 +21,7 @@ use Rattle.state.specs.declared.fields.SignerSlot.{SignerSlot}
 use Rattle.state.specs.Setters.{setSlot}
 use Rattle.state.specs.View.{recordBytes, messageAt, noRow, rowOf, rowsFrom}
 use Rattle.state.proofs.Within.{Good}
-use Rattle.state.proofs.Store.{Same, same-is}
+use Rattle.state.proofs.Store.{Same}
 use Rattle.records.specs.Records.{responseFor, rowMessage, recordFrom, recordPlace, emptyRow}
 use Rattle.records.proofs.AddResponse.{row-same, rows-same}
 

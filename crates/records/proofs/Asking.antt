@@ -1,19 +1,14 @@
 -- What is asked of a response: the struct's answer is the step's, of what the struct stands for.
 -- Assumes nothing.
-use Prim.Native.Nat.{ℕ, _+_, _/_, _<_, _≤_}
+use Prim.Native.Nat.{ℕ, _+_, _<_, _≤_}
 use mathlib.Core.Path.{_≡_, refl, sym, ap, _∙_}
 use mathlib.Core.Bool.{Bool, true, false, cond, not, _&&_}
 use mathlib.Core.List.{List, map}
 use mathlib.Core.Option.{Option, some, none}
 use native.Mathlib.Omega.{arith}
 use lib.Dec.{eqb}
-use lib.ListN.{length, getD, take, drop, length-map}
-use lib.Seq.{take-all}
-use Rattle.wire.specs.Bytes.{number}
-use Rattle.layout.specs.Limits.{listLimit}
+use lib.ListN.{length, getD, take, drop}
 use Rattle.layout.specs.Messages.{NonceResponse}
-use Rattle.layout.specs.Decode.{entries, idsIn}
-use Rattle.layout.proofs.Entries.{length-entries}
 use Rattle.pieces.proofs.Given.{map-live}
 use Rattle.job.proofs.Held.{live-none}
 use Rattle.validity.specs.Keys.{member, sameSet, listed}
@@ -26,7 +21,7 @@ use Rattle.state.specs.declared.fields.SignerEntry.{SignerEntry}
 use Rattle.state.specs.declared.fields.Config.{Config}
 use Rattle.state.specs.declared.fields.Coordinator.{Coordinator}
 use Rattle.state.specs.Slots.{signerSlot, slotFrom, collect, when}
-use Rattle.state.specs.View.{keyBytes, entryId, idsOf, slotsOf, noEntry, flaggedIn, signerIn, configOf, standingOf}
+use Rattle.state.specs.View.{entryId, idsOf, slotsOf, noEntry, flaggedIn, signerIn, configOf, standingOf}
 use Rattle.state.proofs.SignerSlots.{ids-short, slots-rise, slot-in, slot-is, slots-out}
 use Rattle.state.proofs.Collect.{when-some, when-is, find-in, find-out, member-found}
 use Rattle.records.specs.declared.admits.Slot.the-variants.{At, Nowhere}
@@ -57,11 +52,6 @@ answer-some (some j) i e = let s : j ≡ i = cc in ap some s
 
 pub slot-low : (g : Config) (id i : ℕ) → slotOf id g ≡ some i → i < g .count
 slot-low g id i e = omega (arith, ids-short g, slot-is id 0 (idsOf g) i e .1)
-
--- sixteen key ids at most: all of them
-pub all-keys : (s : List ℕ) → length s ≤ keyBytes → take listLimit (idsIn s) ≡ idsIn s
-unfolding idsIn
-all-keys s h = take-all listLimit (map number (entries 4 (length s / 4) s)) (rw (length-map, length-entries) (omega arith))
 
 -- the signers that stand for the configuration
 abbrev listing : Config → SignerSlot → Option SignerConfig

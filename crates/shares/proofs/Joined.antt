@@ -6,14 +6,12 @@ use mathlib.Core.List.{List, [], _∷_, _++_, map, append-assoc}
 use native.Mathlib.Numerals.{add-one}
 use native.Mathlib.Omega.{arith}
 use lib.ListN.{length, getD, set, drop, length-drop}
-use lib.Seq.{take-all}
 use Rattle.layout.specs.Limits.{listLimit}
 use Rattle.layout.specs.declared.KeyId.{KeyId}
 use Rattle.layout.specs.Decode.{idsIn, shareIn}
-use Rattle.layout.proofs.Entries.{length-idsIn}
 use Rattle.validity.specs.declared.keys.KeyIds.{KeyIds}
 use Rattle.validity.specs.Keys.{keyNumber, keyList, listed}
-use Rattle.validity.proofs.Places.{keys, keys-next, listed-keyList}
+use Rattle.validity.proofs.Places.{keys, keys-next, listed-whole}
 use Rattle.step_definition.specs.Effects.{shareKeyIds}
 use Rattle.shares.specs.Shares.{partKeys}
 
@@ -41,6 +39,6 @@ pub part-keys : (p : List ℕ) (l : KeyIds) → l ≡ keyList (drop 36 p) → pa
 unfolding keyList
 part-keys p l e h =
     let n : length (drop 36 p) / 4 ≡ partKeys p = ap (λ (n : ℕ). n / 4) (length-drop 36 p) in (
-      ap listed e ∙ listed-keyList (drop 36 p) ∙ take-all listLimit (idsIn (drop 36 p)) (rw length-idsIn (omega arith)),
+      ap listed e ∙ listed-whole (drop 36 p) (omega arith),
       ap (λ (k : KeyIds). k .count) e ∙ omega arith,
     )

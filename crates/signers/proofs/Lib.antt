@@ -2,4 +2,5 @@
 -- Assumes nothing.
 pub mod Given
 pub mod Placing
+pub mod Rising
 pub mod Walking

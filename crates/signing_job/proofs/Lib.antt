@@ -3,7 +3,7 @@
 pub mod Found
 pub mod Placing
 pub mod Joined
-pub mod KeyLists
+pub mod SentKeys
 pub mod Marked
 pub mod Holding
 pub mod Writes

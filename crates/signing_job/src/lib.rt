@@ -40,7 +40,7 @@ pub fn write_signing_job(
     let row = records.rows[r];
     let shares = s.shares;
     let ps = places::job_places(walked, r, row, shares);
-    let mark = whole::is_whole(walked, row, shares, store, ps);
+    let mark = whole::is_whole(walked, store, r, row, shares);
     let position = s.position;
     let root = position.root;
     let ids = s.ids;

@@ -1,16 +1,16 @@
 // The mark beside a job: whether every responder's shares are held and no key id occurs twice in the joined list.
 ghost use mathlib.Core.Path.{_≡_};
 ghost use Prim.Native.Nat.{_≤_};
-ghost use mathlib.Core.Bool.{true, _&&_};
+ghost use mathlib.Core.Bool.{_&&_};
 ghost use lib.ListN.{length};
 ghost use Rattle.wire.specs.Bytes.{every};
 ghost use Rattle.layout.specs.Limits.{signerLimit};
-ghost use Rattle.job.specs.Job.{keysOf, signersIn, jobsHold};
 ghost use Rattle.step_definition.specs.Ids.{distinct};
+ghost use Rattle.step_definition.specs.Effects.{joinedKeys};
 ghost use Rattle.signers.specs.Order.{ordered};
-ghost use Rattle.signing_job.specs.SigningJob.{sharesAreHeld};
+ghost use Rattle.signing_job.specs.SigningJob.{responses, sharesAreHeld};
+ghost use Rattle.signing_job.specs.SentKeys.{Listed};
 use crate::keys;
-use job::JobPlaces;
 use layout::SIGNER_LIMIT;
 use signers::order::Order;
 use state::fields::Shares;
@@ -51,17 +51,14 @@ fn all_shares_held(o: Order, row: SignRoundInfo, shares: Shares) -> bool
     true
 }
 
-// Of the signers in order, a record with the shares held, and the places of the lists that its job joins.
-pub fn is_whole(o: Order, row: SignRoundInfo, shares: Shares, source: &[u8], ps: JobPlaces) -> bool
-    requires { ⌜ (o .count ≤ signerLimit) × (jobsHold (length (now source)) ps ≡ true) ⌝ }
+// Of the signers in order and a record, with the shares held.
+pub fn is_whole(o: Order, source: &[u8], r: usize, row: SignRoundInfo, shares: Shares) -> bool
+    requires { ⌜ Listed o (length (now source)) r row ⌝ }
     ensures { λ b. ⌜ b ≡ (every (sharesAreHeld (row .slots) (shares .slots)) (ordered o)
-        && distinct (keysOf (now (source .entry)) (signersIn ps))) ⌝ }
+        && distinct (joinedKeys (responses (ordered o) (now (source .entry)) r row))) ⌝ }
 {
     if !all_shares_held(o, row, shares) {
         return false;
     }
-    let joined = keys::joined_keys(source, ps);
-    let ids = joined.ids;
-    let count = joined.count;
-    id_lists::is_distinct(&ids[..count])
+    keys::none_twice(o, source, r, row)
 }

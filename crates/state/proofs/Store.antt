@@ -2,16 +2,12 @@
 -- Assumes nothing.
 use Prim.Native.Nat.{ℕ, zero, suc, min, _+_, _-_, _<_, _≤_}
 use mathlib.Core.Path.{_≡_, refl, sym, ap, _∙_}
-use mathlib.Core.Bool.{true}
 use mathlib.Core.List.{List, [], _∷_, _++_, append-assoc}
 use native.Mathlib.Omega.{arith}
-use lib.Dec.{eqb}
-use borrow.Author.Tests.{eqb-true}
 use lib.ListN.{length, getD, set, take, drop, length-take, length-drop}
 use lib.Seq.{getD-set-other, getD-take, getD-drop, drop-drop, ext-getD, take-at, drop-at, length-take-le}
-use Rattle.wire.specs.Bytes.{put, sameBytes}
+use Rattle.wire.specs.Bytes.{put}
 use Rattle.wire.proofs.Buffer.{length-put, put-inside}
-use Rattle.wire.proofs.Lists.{and-left, and-right}
 
 -- the same bytes in the n places from `at` on; the lists need not have the same length
 pub record Same (at n : ℕ) (l l′ : List ℕ) : Type 0 where
@@ -81,13 +77,3 @@ pub put-read : (l : List ℕ) (at : ℕ) (bs : List ℕ) (n : ℕ) → n ≡ len
 put-read l at bs n e h =
     rw (e, put-inside l at bs h, append-assoc (take at l) bs (drop (at + length bs) l), drop-at (take at l) (bs ++ drop (at + length bs) l) at (length-take-le at l (omega arith)))
     (take-at bs (drop (at + length bs) l) (length bs) refl)
-
-pub same-is : (xs ys : List ℕ) → sameBytes xs ys ≡ true → xs ≡ ys
-unfolding sameBytes
-same-is [] [] e = refl
-same-is [] (y ∷ ys) e = let z : _≡_ {A = ℕ} 0 1 = cc in let f : ⊥ = omega arith in absurd f
-same-is (x ∷ xs) [] e = let z : _≡_ {A = ℕ} 0 1 = cc in let f : ⊥ = omega arith in absurd f
-same-is (x ∷ xs) (y ∷ ys) e =
-    let h : x ≡ y = eqb-true x y (and-left (eqb x y) (sameBytes xs ys) e) in
-    let t : xs ≡ ys = same-is xs ys (and-right (eqb x y) (sameBytes xs ys) e) in
-    cc

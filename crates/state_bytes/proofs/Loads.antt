@@ -3,27 +3,22 @@
 use Prim.Native.Nat.{ℕ, _+_, _≤_}
 use mathlib.Core.Path.{_≡_, refl, sym}
 use mathlib.Core.Bool.{true, false}
-use mathlib.Core.List.{List, [], _∷_, _++_}
+use mathlib.Core.List.{List, [], _++_}
 use native.Mathlib.Omega.{arith}
-use borrow.Author.Tests.{eq-eqb, le-leb}
+use borrow.Author.Tests.{le-leb}
 use lib.Dec.{leb}
 use lib.ListN.{length, take, drop, length-append}
 use lib.Seq.{take-at}
-use Rattle.wire.specs.Bytes.{sameBytes, put}
+use Rattle.wire.specs.Bytes.{put}
 use Rattle.wire.proofs.Lists.{and-right}
+use Rattle.wire.proofs.SameBytes.{same-is, same-self}
 use Rattle.wire.proofs.Buffer.{put-inside}
 use Rattle.state.specs.declared.fields.Coordinator.{Coordinator}
-use Rattle.state.proofs.Store.{same-is}
 use Rattle.state_bytes.specs.Places.{stateLength}
 use Rattle.state_bytes.specs.Saved.{saved}
 use Rattle.state_bytes.specs.Fits.{Saves}
 use Rattle.state_bytes.specs.Loaded.{stateAt, unsaved, isSaved, loaded}
 use Rattle.state_bytes.proofs.Back.{length-saved, state-said}
-
-same-refl : (xs : List ℕ) → sameBytes xs xs ≡ true
-unfolding sameBytes
-same-refl [] = refl
-same-refl (x ∷ xs) = rw (eq-eqb x x refl, same-refl xs)
 
 -- a saved state, whatever stands after it, is known as one and loaded as it was
 pub is-saved : (s : Coordinator) → Saves s → (rest : List ℕ) → isSaved (saved s ++ rest) ≡ true
@@ -33,7 +28,7 @@ is-saved s f rest =
     let w = take-at (saved s) rest in
     let e = state-said (saved s ++ rest) s f (record { here = w (length (saved s)) refl }) in
     let l : stateLength ≤ length (saved s ++ rest) = rw (length-append, n) (omega arith) in
-    rw (e, w stateLength n, same-refl, le-leb stateLength (length (saved s ++ rest)) l)
+    rw (e, w stateLength n, same-self, le-leb stateLength (length (saved s ++ rest)) l)
 
 pub load-saved : (s : Coordinator) → Saves s → (rest : List ℕ) → loaded (saved s ++ rest) ≡ s
 unfolding loaded

@@ -6,6 +6,7 @@ use mathlib.Core.Bool.{Bool, true, false, _&&_, _||_, false≢true}
 use mathlib.Core.List.{List, []}
 use lib.Dec.{eqb, lit<}
 use lib.ListN.{getD}
+use Rattle.wire.proofs.Lists.{and-true}
 use Rattle.layout.specs.declared.SignatureType.the-variants.{Frost}
 use Rattle.state_table.specs.declared.State.{State}
 use Rattle.state_table.specs.declared.State.the-variants.{Idle, DkgPublicDistribute, DkgPublicGather, DkgPublicSharesDoneDistribute, DkgPublicSharesDoneGather, DkgPrivateDistribute, DkgPrivateGather, DkgPrivateSharesDoneDistribute, DkgPrivateSharesDoneGather, DkgEndDistribute, DkgEndGather, NonceRequest, NonceGather, SigShareRequest, SigShareGather}
@@ -13,10 +14,6 @@ use Rattle.state_table.specs.declared.StateType.{StateType}
 use Rattle.state_table.specs.declared.StateType.the-variants.{Untyped, Typed}
 use Rattle.state_table.specs.States.{Position, stateNumber, typeIn, sameType, typesAgree, same}
 use Rattle.state_table.specs.Moves.{accepted, canMoveTo, states, allowed}
-
-and-true : (a : Bool) → (a && true) ≡ a
-and-true true = refl
-and-true false = refl
 
 -- the state that stands for s in `states`
 abbrev rep : State → State

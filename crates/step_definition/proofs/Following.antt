@@ -7,7 +7,7 @@ use mathlib.Core.List.{List, [], _∷_}
 use mathlib.Core.Option.{Option, some, none, Option·none-ne-some}
 use lib.Dec.{ltb, leb}
 use lib.ListN.{length, length-map}
-use Rattle.wire.proofs.Lists.{and-left, and-right}
+use Rattle.wire.proofs.Lists.{and-left, and-right, and-assoc}
 use Rattle.layout.specs.Limits.{recordLimit, storeLength, answerLength}
 use Rattle.layout.specs.Messages.{NonceRequest, NonceResponse, SignatureShareRequest, Message}
 use Rattle.layout.specs.Messages.{nonceRequest, nonceResponse, signatureShareRequest, signatureShareResponse, dkgBegin, dkgSigner, dkgCoordinator}
@@ -67,10 +67,6 @@ takes-and {t = false} p q = q refl
 takes-not : {t : Bool} {a b : NonceVerdict} → (t ≡ true → Takes a false) → (t ≡ false → Takes b true) → Takes (cond t a b) (not t)
 takes-not {t = true} p q = p refl
 takes-not {t = false} p q = q refl
-
-and-assoc : (a b c : Bool) → (a && b) && c ≡ a && (b && c)
-and-assoc true b c = refl
-and-assoc false b c = refl
 
 module _ (o : Opened) (ss : List SignerShares) (start : Option ℕ) where
   -- an outcome against the log: the share request that it names is sent, or it names none and the records are logged

@@ -7,6 +7,7 @@ pub mod Verdicts
 pub mod WorkedRounds
 pub mod Distinct
 pub mod Whole
+pub mod Repeats
 pub mod Outcomes
 pub mod Refusals
 pub mod Malicious

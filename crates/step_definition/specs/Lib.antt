@@ -11,6 +11,7 @@ pub mod Questions
 pub mod Counts
 pub mod Effects
 pub mod Whole
+pub mod Shared
 pub mod Starts
 pub mod Timeouts
 pub mod NonceGather

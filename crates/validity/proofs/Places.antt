@@ -7,7 +7,9 @@ use native.Mathlib.Nat.{min-eq-left, suc-min-suc, mul-zero, mul-suc, add-comm}
 use native.Mathlib.Numerals.{add-one}
 use native.Mathlib.Omega.{arith}
 use lib.ListN.{length, getD, set, take, drop, length-map, length-take, drop-of-length-le, List·getD-map}
-use lib.Seq.{take-nil, take-suc, set-at, drop-cons, drop-drop, getD-take, length-take-le, take-append-seam}
+use lib.Seq.{take-nil, take-all, take-suc, set-at, drop-cons, drop-drop, getD-take, length-take-le, take-append-seam}
+use mir.Val.{Val}
+use denote.Laws.{Is}
 use Rattle.wire.specs.Bytes.{number, numberAt}
 use Rattle.layout.specs.declared.KeyId.{KeyId}
 use Rattle.layout.specs.Decode.{entries, idsIn}
@@ -15,6 +17,11 @@ use Rattle.layout.proofs.Entries.{length-idsIn}
 use Rattle.validity.specs.declared.keys.KeyIds.{KeyIds}
 use Rattle.layout.specs.Limits.{listLimit}
 use Rattle.validity.specs.Keys.{keyNumber, keyOf, keyPlaces, keyList, listed}
+use Rattle.validity.proofs.keys.KeyIds as KeyIds-row
+
+-- a KeyIds has sixteen places
+pub keys-16 : (k : KeyIds) (vs : List Val) → Is KeyIds-row.the-row k vs → length (k .ids) ≡ 16
+keys-16 k vs g = rw length-map at (g .1 .1 .0 .1 .0 .1)
 
 -- no more is taken than there is
 take-min : (l : List ℕ) (n : ℕ) → take (min n (length l)) l ≡ take n l
@@ -32,6 +39,13 @@ keys-next ids n i h l =
     let e : i < length (keys n ids) = rw (length-take, length-map) (omega arith) in
     rw (add-one, drop-cons (keys n ids) i 0 e, getD-take n (map keyNumber ids) i 0 l, List·getD-map keyNumber ids i (record { 0 = 0 }))
 
+-- the key in a place
+pub key-in : (ids : List KeyId) (n i : ℕ) → i < n → getD (keys n ids) i 0 ≡ keyNumber (getD ids i (keyOf 0))
+key-in ids n i l = getD-take n (map keyNumber ids) i 0 l ∙ List·getD-map keyNumber ids i (keyOf 0)
+
+pub length-keys : (ids : List KeyId) (n : ℕ) → n ≤ length ids → length (keys n ids) ≡ n
+length-keys ids n h = length-take-le n (map keyNumber ids) (rw length-map h)
+
 -- nothing is left after the last place
 pub keys-end : (ids : List KeyId) (n i : ℕ) → n ≤ i → drop i (keys n ids) ≡ []
 keys-end ids n i h = drop-of-length-le (keys n ids) {i = i} (rw (length-take, length-map) (omega arith))
@@ -42,6 +56,9 @@ unfolding listed
 keys-listed k n h e =
     let m : min (k .count) (length (map keyNumber (k .ids))) ≡ n = rw (length-map, h, e) in
     rw m at (take-min (map keyNumber (k .ids)) (k .count))
+
+pub length-listed : (k : KeyIds) → length (k .ids) ≡ 16 → length (listed k) ≡ min (k .count) 16
+length-listed k h = let n = min (k .count) 16 in rw (keys-listed k n h refl) at (length-keys (k .ids) n (omega arith))
 
 -- the ith entry of w bytes
 entry-at : (w k i : ℕ) (s : List ℕ) → i < k → getD (entries w k s) i [] ≡ take w (drop (w * i) s)
@@ -78,9 +95,13 @@ numbers-back : (ks : List ℕ) → map keyNumber (map keyOf ks) ≡ ks
 numbers-back [] = refl
 numbers-back (k ∷ ks) = ap (λ (t : List ℕ). k ∷ t) (numbers-back ks)
 
-pub listed-keyList : (s : List ℕ) → listed (keyList s) ≡ take listLimit (idsIn s)
+listed-keyList : (s : List ℕ) → listed (keyList s) ≡ take listLimit (idsIn s)
 unfolding listed keyList keyPlaces
 listed-keyList s =
     let n : length (take listLimit (idsIn s)) ≡ min (length s / 4) listLimit = rw (length-take, length-idsIn) (omega arith) in
     let m : length (map keyNumber (map keyOf (take listLimit (idsIn s)))) ≡ min (length s / 4) listLimit = rw (length-map, length-map, n) in
     rw (map-append, ← m, take-append-seam) (numbers-back (take listLimit (idsIn s)))
+
+-- a part of at most sixteen ids is read whole
+pub listed-whole : (s : List ℕ) → length s / 4 ≤ listLimit → listed (keyList s) ≡ idsIn s
+listed-whole s h = listed-keyList s ∙ take-all listLimit (idsIn s) (rw length-idsIn (omega arith))

@@ -3,3 +3,4 @@ pub mod Numbers
 pub mod Fields
 pub mod Buffer
 pub mod Lists
+pub mod SameBytes

@@ -27,6 +27,23 @@ pub and-false : (a : Bool) → a && false ≡ false
 and-false true = refl
 and-false false = refl
 
+pub and-true : (a : Bool) → a && true ≡ a
+and-true true = refl
+and-true false = refl
+
+pub and-assoc : (a b c : Bool) → (a && b) && c ≡ a && (b && c)
+and-assoc true b c = refl
+and-assoc false b c = refl
+
+-- a test moves from what is left to what is done
+pub and-moved : (x s r : Bool) → ((x && s) && r) ≡ (s && (x && r))
+and-moved true s r = refl
+and-moved false s r = sym (and-false s)
+
+pub and-yes : (s r : Bool) → true ≡ r → (s && r) ≡ s
+and-yes true r e = sym e
+and-yes false r e = refl
+
 module _ {A : Type 0} where
   -- what passes at every element passes at each
   pub every-at : (f : A → Bool) (xs : List A) (i : ℕ) (d : A) → every f xs ≡ true → i < length xs → f (getD xs i d) ≡ true
@@ -44,6 +61,11 @@ module _ {A : Type 0} where
   unfolding every
   all-every f [] h = refl
   all-every f (x ∷ xs) h = and-both (f x) (every f xs) (h .0) (all-every f xs (h .1))
+
+  pub every-append : (f : A → Bool) (xs ys : List A) → every f (xs ++ ys) ≡ (every f xs && every f ys)
+  unfolding every
+  every-append f [] ys = refl
+  every-append f (x ∷ xs) ys = rw (every-append f xs ys) (sym (and-assoc (f x) (every f xs) (every f ys)))
 
   -- what holds of every element gives what follows from it
   pub all-imp : {P Q : A → Type 0} (xs : List A) → ((x : A) → P x → Q x) → All P xs → All Q xs

@@ -1,9 +1,11 @@
 -- `shares_verdict`: three tests, one by one.
 -- Assumes nothing.
 use mathlib.Core.Bool.{false}
+use mathlib.Core.Path.{ap}
 use lib.ListN.{getD}
 use native.Mathlib.Omega.{arith}
 use borrow.Author.Tests.{not-true, not-false}
+use Rattle.validity.specs.declared.keys.KeyComparison.{KeyComparison}
 use Rattle.state.specs.View.{noEntry}
 use Rattle.share_verdicts.specs.Verdicts.{sharesVerdict}
 use Rattle.share_verdicts.proofs.shares_verdict.Statement.{statement}
@@ -55,7 +57,7 @@ returns-3 c =
       not-false (getD (start .args .s .marks .ended) (start .args .i) false) (else1 .if1 .left),
       not-false (getD (start .args .s .config .signers) (start .args .i) noEntry .«has_keys») (else2 .if2 .left),
       ← after-share-keys .share-keys .ensures,
-      ← after-compare .compare .ensures,
+      ← ap (λ (k : KeyComparison). k .same) (after-compare .compare .ensures),
       not-true (after-compare .compare .result .same) (c .if3 .taken),
     )
 
@@ -71,7 +73,7 @@ returns-4 c =
       not-false (getD (start .args .s .marks .ended) (start .args .i) false) (else1 .if1 .left),
       not-false (getD (start .args .s .config .signers) (start .args .i) noEntry .«has_keys») (else2 .if2 .left),
       ← after-share-keys .share-keys .ensures,
-      ← after-compare .compare .ensures,
+      ← ap (λ (k : KeyComparison). k .same) (after-compare .compare .ensures),
       not-false (after-compare .compare .result .same) (c .if3 .left),
     )
 

@@ -10,7 +10,8 @@ use Rattle.job.specs.Job.{signersIn}
 use Rattle.state.specs.Slots.{collect}
 use Rattle.state.specs.View.{slotsOf, noRow}
 use Rattle.signing_job.specs.Places.{jobPlaceIn}
-use Rattle.signing_job.proofs.Writes.{holds, writes}
+use Rattle.signing_job.proofs.Readiness.{lists-ready}
+use Rattle.signing_job.proofs.Writes.{writes}
 use Rattle.signing_job.proofs.Marked.{mark-walked}
 
 -- the places are those of the record's responders
@@ -44,11 +45,10 @@ is-whole-requires : tie.Need-is-whole-requires
 is-whole-requires c κs =
     let after-ascending = c .before .before .before .before in
     let start = after-ascending .before .before .before .before .before in
-    let a = start .args in (
-      after-ascending .ascending .ensures .1,
-      holds (a .s) (a .store .now) (a .r) (a .message .now) (a .signature-type) (length (a .out .now)) (start .pre)
-          (c .job-places .result) (c .job-places .ensures .1) (walked c),
-    )
+    let a = start .args in
+    let order = after-ascending .ascending in
+    lists-ready (a .s) (a .r) (length (a .store .now)) (length (a .message .now)) (length (a .out .now)) (start .pre)
+    (order .result) (order .ensures .0) (order .ensures .1)
 
 write-job-requires : tie.Need-write-job-requires
 write-job-requires c κs = tt
@@ -69,7 +69,7 @@ returns c =
           (← writes (a .s) (a .store .now) (a .r) (a .message .now) (a .signature-type) (length (a .out .now)) (start .pre)
           (places .result) (places .ensures .1) (walked after-job-places)) (after-write-job .write-job .ensures),
       after-is-whole .is-whole .ensures
-          ∙ rw (mark-walked (a .s) (a .store .now) (a .r), after-ascending .ascending .ensures .0, walked after-job-places),
+          ∙ rw (mark-walked (a .s) (a .store .now) (a .r), after-ascending .ascending .ensures .0),
     )
 
 pub write-signing-job-spec : {M : Type 1} → statement M

@@ -1,6 +1,6 @@
 -- `is_admitted`: the five tests, one by one.
 -- Assumes nothing.
-use Rattle.validity.proofs.Places.{listed-keyList}
+use Rattle.validity.proofs.Places.{listed-whole}
 use Rattle.records.proofs.admits.is_admitted.Statement.{statement}
 use Rattle.records.proofs.admits.is_admitted.Tie as tie
 use Prim.Native.Nat.{ℕ}
@@ -12,10 +12,10 @@ use denote.Ref.{now}
 use native.Mathlib.Omega.{arith}
 use borrow.Author.Tests.{not-true, not-false}
 use Rattle.layout.specs.Decode.{idsIn}
+use Rattle.validity.specs.declared.keys.KeyComparison.{KeyComparison}
 use Rattle.validity.specs.Keys.{sameSet, listed}
 use Rattle.state.specs.View.{noEntry}
 use Rattle.records.specs.Admits.{admittedAt}
-use Rattle.records.proofs.Asking.{all-keys}
 
 element-copy-out-if1 : tie.Need-element-copy-out-if1
 element-copy-out-if1 c = omega arith
@@ -48,25 +48,33 @@ key-list-requires c κs = tt
 compare-requires : tie.Need-compare-requires
 compare-requires c κs = tt
 
+-- the list that was sent, held against the signer's set
+same : (c : tie.After-compare)
+    → let else2 = c .before .before .before in
+    let else1 = else2 .before .before .before .before in
+    let a = else1 .before .before .before .before .before .args in
+    c .compare .result .same ≡ sameSet (idsIn (now (a .key-ids))) (listed (getD (a .s .config .signers) (a .i) noEntry .keys))
+same c =
+    let after-key-list = c .before in
+    let else2 = after-key-list .before .before in
+    let else1 = else2 .before .before .before .before in
+    let a = else1 .before .before .before .before .before .args in
+    ap (λ (k : KeyComparison). k .same) (c .compare .ensures)
+    ∙ ap (λ (l : List ℕ). sameSet l (listed (getD (a .s .config .signers) (a .i) noEntry .keys)))
+    (ap listed (after-key-list .key-list .ensures) ∙ listed-whole (now (a .key-ids)) (omega arith))
+
 returns-3 : tie.Need-returns-3
 unfolding admittedAt
 returns-3 c =
     let after-compare = c .before .before in
-    let after-key-list = after-compare .before in
-    let else2 = after-key-list .before .before in
+    let else2 = after-compare .before .before .before in
     let else1 = else2 .before .before .before .before in
     let start = else1 .before .before .before .before .before in
     let a = start .args in
-    let same : after-compare .compare .result .same ≡ sameSet (idsIn (now (a .key-ids)))
-    (listed (getD (a .s .config .signers) (a .i) noEntry .keys)) =
-    after-compare .compare .ensures
-    ∙ ap (λ (l : List ℕ). sameSet l (listed (getD (a .s .config .signers) (a .i) noEntry .keys)))
-    (ap listed (after-key-list .key-list .ensures) ∙ listed-keyList (now (a .key-ids))
-    ∙ all-keys (now (a .key-ids)) (omega arith)) in
     rw (
       not-false (getD (a .s .marks .ended) (a .i) false) (else1 .if1 .left),
       not-false (getD (a .s .config .signers) (a .i) noEntry .«has_keys») (else2 .if2 .left),
-      ← same,
+      ← same after-compare,
       not-true (after-compare .compare .result .same) (c .if3 .taken),
     )
 
@@ -78,21 +86,14 @@ unfolding admittedAt
 returns-4 c =
     let after-are-valid = c .before in
     let after-compare = after-are-valid .before .before .before in
-    let after-key-list = after-compare .before in
-    let else2 = after-key-list .before .before in
+    let else2 = after-compare .before .before .before in
     let else1 = else2 .before .before .before .before in
     let start = else1 .before .before .before .before .before in
     let a = start .args in
-    let same : after-compare .compare .result .same ≡ sameSet (idsIn (now (a .key-ids)))
-    (listed (getD (a .s .config .signers) (a .i) noEntry .keys)) =
-    after-compare .compare .ensures
-    ∙ ap (λ (l : List ℕ). sameSet l (listed (getD (a .s .config .signers) (a .i) noEntry .keys)))
-    (ap listed (after-key-list .key-list .ensures) ∙ listed-keyList (now (a .key-ids))
-    ∙ all-keys (now (a .key-ids)) (omega arith)) in
     rw (
       not-false (getD (a .s .marks .ended) (a .i) false) (else1 .if1 .left),
       not-false (getD (a .s .config .signers) (a .i) noEntry .«has_keys») (else2 .if2 .left),
-      ← same,
+      ← same after-compare,
       not-false (after-compare .compare .result .same) (c .before .before .if3 .left),
       ← after-are-valid .are-valid .ensures,
       not-true (after-are-valid .are-valid .result) (c .if4 .taken),
@@ -107,21 +108,14 @@ returns-5 c =
     let after-are-valid = c .before .before in
     let else3 = after-are-valid .before in
     let after-compare = else3 .before .before in
-    let after-key-list = after-compare .before in
-    let else2 = after-key-list .before .before in
+    let else2 = after-compare .before .before .before in
     let else1 = else2 .before .before .before .before in
     let start = else1 .before .before .before .before .before in
     let a = start .args in
-    let same : after-compare .compare .result .same ≡ sameSet (idsIn (now (a .key-ids)))
-    (listed (getD (a .s .config .signers) (a .i) noEntry .keys)) =
-    after-compare .compare .ensures
-    ∙ ap (λ (l : List ℕ). sameSet l (listed (getD (a .s .config .signers) (a .i) noEntry .keys)))
-    (ap listed (after-key-list .key-list .ensures) ∙ listed-keyList (now (a .key-ids))
-    ∙ all-keys (now (a .key-ids)) (omega arith)) in
     rw (
       not-false (getD (a .s .marks .ended) (a .i) false) (else1 .if1 .left),
       not-false (getD (a .s .config .signers) (a .i) noEntry .«has_keys») (else2 .if2 .left),
-      ← same,
+      ← same after-compare,
       not-false (after-compare .compare .result .same) (else3 .if3 .left),
       ← after-are-valid .are-valid .ensures,
       not-false (after-are-valid .are-valid .result) (c .before .if4 .left),
