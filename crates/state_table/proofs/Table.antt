@@ -2,11 +2,10 @@
 -- Assumes nothing.
 use Prim.Native.Nat.{ℕ, _<_}
 use mathlib.Core.Path.{_≡_, refl, sym, ap}
-use mathlib.Core.Bool.{Bool, true, false, _&&_, _||_, false≢true}
+use mathlib.Core.Bool.{Bool, true, false, _&&_, _||_, and-true, false≢true}
 use mathlib.Core.List.{List, []}
 use lib.Dec.{eqb, lit<}
 use lib.ListN.{getD}
-use Rattle.wire.proofs.Lists.{and-true}
 use Rattle.layout.specs.declared.SignatureType.the-variants.{Frost}
 use Rattle.state_table.specs.declared.State.{State}
 use Rattle.state_table.specs.declared.State.the-variants.{Idle, DkgPublicDistribute, DkgPublicGather, DkgPublicSharesDoneDistribute, DkgPublicSharesDoneGather, DkgPrivateDistribute, DkgPrivateGather, DkgPrivateSharesDoneDistribute, DkgPrivateSharesDoneGather, DkgEndDistribute, DkgEndGather, NonceRequest, NonceGather, SigShareRequest, SigShareGather}

@@ -2,7 +2,7 @@
 -- Assumes nothing.
 use Prim.Native.Nat.{ℕ, zero, suc, _<_}
 use mathlib.Core.Path.{_≡_, refl}
-use mathlib.Core.Bool.{Bool, true, false, not, _||_, false≢true}
+use mathlib.Core.Bool.{Bool, true, false, not, _||_, false≢true, or-true}
 use mathlib.Core.List.{List, [], _∷_}
 use native.Mathlib.Omega.{arith}
 use borrow.Author.Tests.{eqb-true, eq-eqb}
@@ -19,10 +19,6 @@ unfolding member
 member-at x [] j l e = let z : ⊥ = omega arith in absurd z
 member-at x (k ∷ ks) zero l e = rw (eq-eqb x k e)
 member-at x (k ∷ ks) (suc j) l e = rw (member-at x ks j (omega arith) e) (or-true (eqb x k))
-  where
-    or-true : (b : Bool) → (b || true) ≡ true
-    or-true true = refl
-    or-true false = refl
 
 no-member : (x : ℕ) (ks : List ℕ) → ((j : ℕ) → j < length ks → x ≡ getD ks j 0 → ⊥) → member x ks ≡ false
 unfolding member

@@ -2,12 +2,12 @@
 -- Assumes nothing.
 use Prim.Native.Nat.{ℕ}
 use mathlib.Core.Path.{_≡_, refl, sym, ap, subst}
-use mathlib.Core.Bool.{Bool, true, false, cond, not, _&&_, _||_, false≢true}
+use mathlib.Core.Bool.{Bool, true, false, cond, not, _&&_, _||_, false≢true, and-assoc}
 use mathlib.Core.List.{List, [], _∷_}
 use mathlib.Core.Option.{Option, some, none, Option·none-ne-some}
 use lib.Dec.{ltb, leb}
 use lib.ListN.{length, length-map}
-use Rattle.wire.proofs.Lists.{and-left, and-right, and-assoc}
+use Rattle.wire.proofs.Lists.{and-left, and-right}
 use Rattle.layout.specs.Limits.{recordLimit, storeLength, answerLength}
 use Rattle.layout.specs.Messages.{NonceRequest, NonceResponse, SignatureShareRequest, Message}
 use Rattle.layout.specs.Messages.{nonceRequest, nonceResponse, signatureShareRequest, signatureShareResponse, dkgBegin, dkgSigner, dkgCoordinator}

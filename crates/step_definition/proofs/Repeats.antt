@@ -2,7 +2,7 @@
 -- Assumes nothing.
 use Prim.Native.Nat.{ℕ, suc, _+_}
 use mathlib.Core.Path.{_≡_, refl, sym, ap, _∙_}
-use mathlib.Core.Bool.{Bool, true, false, cond, not, _&&_, _||_}
+use mathlib.Core.Bool.{Bool, true, false, cond, not, _&&_, _||_, and-true, and-assoc, or-false}
 use mathlib.Core.List.{List, [], _∷_, _++_}
 use native.Mathlib.Nat.{zero-add}
 use native.Mathlib.Omega.{arith}
@@ -10,7 +10,7 @@ use borrow.Author.Tests.{eqb-true, eq-eqb, eqb-false, ne-eqb}
 use lib.Dec.{eqb}
 use lib.ListN.{length}
 use Rattle.wire.specs.Bytes.{every}
-use Rattle.wire.proofs.Lists.{and-true, and-false, and-assoc, every-append}
+use Rattle.wire.proofs.Lists.{and-false, every-append}
 use Rattle.layout.specs.Messages.{NonceResponse}
 use Rattle.validity.specs.Keys.{member, disjoint, repeatsAfter, repeats}
 use Rattle.validity.proofs.Repeats.{member-append, member-last}
@@ -143,10 +143,6 @@ repeats-and-different (x ∷ xs) = by (member x xs) refl (repeats-and-different 
   where
     zs : List ℕ
     zs = insertAll xs []
-
-    or-false : (b : Bool) → (b || false) ≡ b
-    or-false true = refl
-    or-false false = refl
 
     there : member x zs ≡ member x xs
     there = member-insertAll x xs [] ∙ or-false (member x xs)

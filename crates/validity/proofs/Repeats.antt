@@ -2,7 +2,7 @@
 -- Assumes nothing.
 use Prim.Native.Nat.{ℕ, _+_, _%_, _<_, _≤_}
 use mathlib.Core.Path.{_≡_, refl, sym, _∙_}
-use mathlib.Core.Bool.{Bool, true, false, cond, _||_, false≢true}
+use mathlib.Core.Bool.{Bool, true, false, cond, _||_, false≢true, or-true, or-assoc}
 use mathlib.Core.List.{List, [], _∷_, _++_, map, append-assoc}
 use native.Mathlib.Numerals.{add-one}
 use native.Mathlib.Omega.{arith}
@@ -20,11 +20,7 @@ use Rattle.validity.proofs.Places.{keys, keys-next}
 pub member-append : (x : ℕ) (xs ys : List ℕ) → member x (xs ++ ys) ≡ (member x xs || member x ys)
 unfolding member
 member-append x [] ys = refl
-member-append x (z ∷ xs) ys = rw (member-append x xs ys) (or-assoc (eqb x z) (member x xs) (member x ys))
-  where
-    or-assoc : (a b c : Bool) → (a || (b || c)) ≡ ((a || b) || c)
-    or-assoc true b c = refl
-    or-assoc false b c = refl
+member-append x (z ∷ xs) ys = rw (member-append x xs ys) (sym (or-assoc (eqb x z) (member x xs) (member x ys)))
 
 pub member-last : (x y : ℕ) (xs : List ℕ) → member x (xs ++ (y ∷ [])) ≡ (eqb x y || member x xs)
 unfolding member
@@ -42,13 +38,9 @@ unfolding subset every member
 within-self before [] = refl
 within-self before (x ∷ xs) =
     let here : member x (before ++ (x ∷ xs)) ≡ true =
-    rw (member-append x before (x ∷ xs), eq-eqb x x refl) (or-yes (member x before)) in
+    rw (member-append x before (x ∷ xs), eq-eqb x x refl) (or-true (member x before)) in
     and-both (member x (before ++ (x ∷ xs))) (subset xs (before ++ (x ∷ xs))) here
     (rw (append-assoc before (x ∷ []) xs) at (within-self (before ++ (x ∷ [])) xs))
-  where
-    or-yes : (a : Bool) → (a || true) ≡ true
-    or-yes true = refl
-    or-yes false = refl
 
 pub subset-self : (xs : List ℕ) → subset xs xs ≡ true
 subset-self xs = within-self [] xs

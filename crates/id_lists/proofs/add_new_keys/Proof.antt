@@ -14,20 +14,16 @@ use Rattle.wire.specs.Bytes.{every}
 use Rattle.layout.specs.declared.KeyId.{KeyId}
 use Rattle.validity.specs.Keys.{keyNumber, keyAt, listed, member, disjoint}
 use Rattle.validity.specs.Notes.{Noted}
-use Rattle.validity.proofs.Places.{keys-16, key-in, length-keys}
+use Rattle.validity.proofs.Places.{keys, keys-16, key-in, length-keys}
 use Rattle.validity.proofs.Repeats.{not-noted, noted-last, before-next}
 use Rattle.id_lists.proofs.Adding.{not-among, disjoint-one, shared-at, put-last}
-
--- the keys in the first places
-abbrev firsts : List KeyId → ℕ → List ℕ
-firsts given i = take i (map keyNumber given)
 
 abbrev Inv-loop : tie.InvT-loop
 Inv-loop ids₀ count seen₀ given more i₀ ids seen i =
     (length given ≡ 16) × (length ids ≡ length ids₀) × (length seen ≡ 256) × (i ≤ more) × (take count ids ≡ take count ids₀)
-    × (take (count + i) ids ≡ take count ids₀ ++ firsts given i)
-    × (disjoint (take count ids₀) (firsts given i) ≡ true)
-    × Noted seen (take count ids₀ ++ firsts given i)
+    × (take (count + i) ids ≡ take count ids₀ ++ keys i given)
+    × (disjoint (take count ids₀) (keys i given) ≡ true)
+    × Noted seen (take count ids₀ ++ keys i given)
 
 abbrev μ-loop : tie.MeasureT-loop
 μ-loop ids₀ count seen₀ given more i₀ ids seen i = more - i
@@ -72,7 +68,7 @@ is-among-requires c κs =
     let v = at-loop .loop in (
       omega (arith, start .pre .room, v .inv),
       λ n. ap (member (keyAt (a .list) (v .i))) (v .inv .4)
-          ∙ not-among _ (take (a .count) (a .ids .now)) (firsts (a .list .ids) (v .i))
+          ∙ not-among _ (take (a .count) (a .ids .now)) (keys (v .i) (a .list .ids))
           (not-noted (v .seen) _ _ (v .inv .7) (rw (c .before .before .last-byte .ensures) at n)),
     )
 
@@ -134,7 +130,7 @@ loop-again c =
     let a = start .args in
     let v = at-loop .loop in
     let before = take (a .count) (a .ids .now) in
-    let ks = firsts (a .list .ids) (v .i) in
+    let ks = keys (v .i) (a .list .ids) in
     let key = keyAt (a .list) (v .i) in
     let new : member key before ≡ false =
     ap (member key) (sym (v .inv .4)) ∙ sym (after-is-among .is-among .ensures) ∙ c .if1 .left in

@@ -4,7 +4,7 @@ use Rattle.id_lists.proofs.contains.Statement.{statement}
 use Rattle.id_lists.proofs.contains.Tie as tie
 use Prim.Native.Nat.{ℕ, suc, _-_, _+_, _≤_, _<_}
 use mathlib.Core.Path.{_≡_, refl, sym, _∙_, ap}
-use mathlib.Core.Bool.{Bool, true, false, _||_}
+use mathlib.Core.Bool.{Bool, true, false, _||_, or-false}
 use mathlib.Core.List.{List, [], _∷_}
 use native.Mathlib.Numerals.{add-one}
 use native.Mathlib.Omega.{arith}
@@ -31,10 +31,6 @@ moved : (x s r : Bool) → ((x || s) || r) ≡ (s || (x || r))
 moved true true r = refl
 moved true false r = refl
 moved false s r = refl
-
-or-no : (s : Bool) → (s || false) ≡ s
-or-no true = refl
-or-no false = refl
 
 abbrev Inv-loop : tie.InvT-loop
 Inv-loop ids count id found₀ i₀ found i = (i ≤ count) × ((found || member id (drop i (take count ids))) ≡ member id (take count ids))
@@ -73,7 +69,7 @@ returns c =
     let v = c .before .loop in
     let a = c .before .before .before .args in
     let none = member-none (a .id) (now (a .ids)) (a .count) (v .i) (c .loop-test .left) in
-    sym (or-no (v .found)) ∙ ap (λ (t : Bool). v .found || t) (sym none) ∙ v .inv .1
+    sym (or-false (v .found)) ∙ ap (λ (t : Bool). v .found || t) (sym none) ∙ v .inv .1
 
 pub contains-spec : {M : Type 1} → statement M
 contains-spec =
