@@ -29,6 +29,7 @@ pub mod reached;
 pub mod responses;
 pub mod rng;
 pub mod same;
+pub mod saved;
 pub mod shrink;
 pub mod signature_type;
 pub mod states;

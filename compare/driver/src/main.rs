@@ -1,5 +1,5 @@
-//! `compare run SEED CALLS [--break N]`, `compare run --replay FILE`, `compare bench [ROUNDS]`.
-//! README.md says what they do.
+//! `compare run SEED CALLS [--break N]`, `compare run --replay FILE`, `compare bench [ROUNDS]`,
+//! `compare medians ROUNDS`. README.md says what they do.
 
 use std::{process::ExitCode, time::Instant};
 
@@ -76,7 +76,7 @@ fn replay(file: &str) -> Result<bool, String> {
 }
 
 fn usage() -> bool {
-    eprintln!("run SEED CALLS [--break N] | run --replay FILE | bench [ROUNDS]");
+    eprintln!("run SEED CALLS [--break N] | run --replay FILE | bench [ROUNDS] | medians ROUNDS");
     false
 }
 
@@ -102,6 +102,7 @@ fn main() -> ExitCode {
         ["run", seed, calls, "--break", n] => run_words(seed, calls, Some(n)),
         ["bench"] => bench::run(2_000),
         ["bench", rounds] => rounds.parse().map_or_else(|_| usage(), bench::run),
+        ["medians", rounds] => rounds.parse().map_or_else(|_| usage(), bench::medians),
         _ => usage(),
     };
     if ok {

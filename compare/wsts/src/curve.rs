@@ -7,9 +7,13 @@ fn hex_of(f: &mut std::fmt::Formatter<'_>, bytes: &[u8]) -> std::fmt::Result {
     f.write_str(&hex::encode(bytes))
 }
 
-/// Serialises an array of any length as a byte string (serde has arrays only up to 32).
+/// Serialises an array of any length as a byte string (serde has arrays only up to 32): the form
+/// that a serialiser writes and reads quickest, whole and without an allocation.
 mod array {
-    use serde::{de::Error, Deserialize, Deserializer, Serializer};
+    use serde::{
+        de::{Error, Visitor},
+        Deserializer, Serializer,
+    };
 
     pub fn serialize<S: Serializer, const N: usize>(a: &[u8; N], s: S) -> Result<S::Ok, S::Error> {
         s.serialize_bytes(a)
@@ -18,14 +22,29 @@ mod array {
     pub fn deserialize<'de, D: Deserializer<'de>, const N: usize>(
         d: D,
     ) -> Result<[u8; N], D::Error> {
-        let v = Vec::<u8>::deserialize(d)?;
-        v.try_into().map_err(|_| D::Error::custom("wrong length"))
+        d.deserialize_bytes(Bytes::<N>)
+    }
+
+    struct Bytes<const N: usize>;
+
+    impl<'de, const N: usize> Visitor<'de> for Bytes<N> {
+        type Value = [u8; N];
+
+        fn expecting(&self, f: &mut std::fmt::Formatter<'_>) -> std::fmt::Result {
+            write!(f, "{N} bytes")
+        }
+
+        fn visit_bytes<E: Error>(self, bytes: &[u8]) -> Result<[u8; N], E> {
+            bytes.try_into().map_err(|_| E::invalid_length(bytes.len(), &self))
+        }
     }
 }
 
 pub mod field {
-    #[derive(Clone, Copy, Debug, Default, PartialEq, Eq)]
-    pub struct Element(pub [u8; 32]);
+    use super::*;
+
+    #[derive(Clone, Copy, Debug, Default, PartialEq, Eq, Serialize, Deserialize)]
+    pub struct Element(#[serde(with = "array")] pub [u8; 32]);
 
     impl Element {
         pub fn to_bytes(&self) -> [u8; 32] {
@@ -216,9 +235,10 @@ pub mod point {
 
 pub mod ecdsa {
     use super::scalar::Scalar;
+    use serde::{Deserialize, Serialize};
 
     /// A public key is a name.
-    #[derive(Clone, Copy, Debug, PartialEq, Eq, Hash)]
+    #[derive(Clone, Copy, Debug, PartialEq, Eq, Hash, Serialize, Deserialize)]
     pub struct PublicKey(pub u64);
 
     impl std::fmt::Display for PublicKey {

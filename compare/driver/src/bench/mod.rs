@@ -1,37 +1,55 @@
 //! Time per call, library against fire.rs, as tables.
 
-mod rounds;
-mod shape;
-mod sides;
+pub mod rounds;
+pub mod shape;
+pub mod sides;
 mod ticks;
 
-use rounds::{Lengths, Medians, Sort, SORTS};
+use rounds::{Lengths, Median, Medians, Sort};
 use shape::Shape;
 
 use crate::c;
 
 const INCLUDES: &str = "\
-What is timed. fire.rs: the call itself (`start_signing_round`, `process`, `process_timeout`), given
-packets that are already decoded into the structs of net.rs, giving structs back; what it gives is
-freed outside the time. It hashes what it sends (SHA-256) to sign it; the signature itself is a
-stand-in. Its aggregator is a stand-in that answers at once. Signatures are not tested. It is
-optimised, with overflow checks.
+What is timed. fire.rs alone: the call itself (`start_signing_round`, `process`, `process_timeout`), given
+packets that are already decoded into the structs of net.rs, giving structs back. It hashes what it sends
+(SHA-256) to sign it; the signature itself is a stand-in. Its aggregator is a stand-in that answers at once.
+Signatures are not tested. It is optimised, with overflow checks.
+fire.rs that survives a crash: the same, and around it all that a host needs to go on after a crash. The
+packet's bytes are decoded by serde (bincode) into net.rs's structs, what goes out is serialised, `save()`
+copies the state, and the copy is serialised field by field. Nothing is loaded: it keeps its state in memory.
 The library: the whole call through C. It reads the packet's bytes (questions 8 and 9), reads the
 state from its bytes and writes it back, copies to and from the store, and writes the packet's
 bytes. The host's signing is not in it. Where a job comes, `rc_process` and `rc_aggregated` together.
+On no side: writing to a disk; freeing what a call gave or was given.
 Same inputs, rounds in turns, and the shapes of a table in turns; medians. The clock of fire.rs is the test clock.";
 
-const NAMES: [&str; SORTS.len()] = [
-    "start",
-    "a packet that is refused (17)",
-    "a timeout that does not fire",
-    "a packet of kind 3, read and not gathered",
-    "a response recorded",
-    "the response that completes the threshold: kind 3 goes out",
-    "a share response",
-    "the last share, with its job",
-    "of that, `rc_aggregated`",
+/// The rows of a table.
+const ROWS: [(Sort, &str); 9] = [
+    (Sort::Start, "start"),
+    (Sort::Refused, "a packet that is refused (17)"),
+    (Sort::Timeout, "a timeout that does not fire"),
+    (Sort::Dropped, "a packet of kind 3, read and not gathered"),
+    (Sort::Response, "a response recorded"),
+    (Sort::Completing, "the response that completes the threshold: kind 3 goes out"),
+    (Sort::Share, "a share response"),
+    (Sort::LastShare, "the last share, with its job"),
+    (Sort::Aggregated, "of that, `rc_aggregated`"),
 ];
+
+/// The rows of ../../../instructions.txt that are timed here, by the names that they have there.
+const MEASURED: [(Sort, &str); 9] = [
+    (Sort::Start, "start"),
+    (Sort::Refused, "a packet that is refused (17)"),
+    (Sort::Timeout, "a timeout that does not fire"),
+    (Sort::Dropped, "a packet of kind 3, read and not gathered"),
+    (Sort::Response, "a response recorded (the sixth)"),
+    (Sort::Completing, "the response that completes the threshold"),
+    (Sort::Share, "a share (the sixth)"),
+    (Sort::Job, "the last share, with its job"),
+    (Sort::Aggregated, "aggregated"),
+];
+const ROUND: &str = "a whole round";
 
 struct Printer {
     scale: f64,
@@ -42,25 +60,27 @@ impl Printer {
         ticks.map_or("-".into(), |t| format!("{:.2}", t as f64 * self.scale))
     }
 
-    fn ratio(&self, m: &Medians, i: usize) -> String {
-        match (m.fire[i], m.library[i]) {
-            (Some(f), Some(l)) if f > 0 => format!("{:.1}", l as f64 / f as f64),
-            _ => "-".into(),
+    fn against(&self, name: &str, fire: &Median, library: &Median) {
+        println!("\n| call | {name}, µs | library, µs | library / fire.rs |\n|---|---:|---:|---:|");
+        let row = |name: &str, fire: Option<u64>, library: Option<u64>| {
+            let ratio = match (fire, library) {
+                (Some(f), Some(l)) if f > 0 => format!("{:.1}", l as f64 / f as f64),
+                _ => "-".into(),
+            };
+            println!("| {name} | {} | {} | {ratio} |", self.time(fire), self.time(library));
+        };
+        for (sort, name) in ROWS {
+            let both = sort != Sort::Aggregated;
+            row(name, fire[sort as usize].filter(|_| both), library[sort as usize]);
         }
+        let (fire, library) = (whole_round(fire), whole_round(library));
+        row("a whole round: the sum of 21 medians", Some(fire), Some(library));
     }
 
-    fn against(&self, title: &str, m: &Medians) {
-        println!("\n{title}\n");
-        println!("| call | fire.rs, µs | library, µs | library / fire.rs |\n|---|---:|---:|---:|");
-        for (i, name) in NAMES.iter().enumerate() {
-            let fire = if i == Sort::Aggregated as usize { None } else { m.fire[i] };
-            let (fire, library) = (self.time(fire), self.time(m.library[i]));
-            println!("| {name} | {fire} | {library} | {} |", self.ratio(m, i));
-        }
-        let (fire, library) = (whole_round(&m.fire), whole_round(&m.library));
-        let ratio = library as f64 / fire as f64;
-        let (fire, library) = (self.time(Some(fire)), self.time(Some(library)));
-        println!("| a whole round: the sum of 21 medians | {fire} | {library} | {ratio:.1} |");
+    fn sides(&self, title: &str, m: &Medians) {
+        println!("\n{title}");
+        self.against("fire.rs alone", &m.fire, &m.library);
+        self.against("fire.rs that survives a crash", &m.surviving, &m.library);
     }
 
     fn growth(&self, title: &str, shapes: &[(u64, Shape)], rounds: u64) {
@@ -88,7 +108,7 @@ impl Printer {
 }
 
 /// A start, ten responses, ten share responses.
-fn whole_round(medians: &[Option<u64>; SORTS.len()]) -> u64 {
+fn whole_round(medians: &Median) -> u64 {
     let median = |sort: Sort| medians[sort as usize].unwrap_or(0);
     let once = [Sort::Start, Sort::Completing, Sort::LastShare].map(median);
     once.iter().sum::<u64>() + 9 * (median(Sort::Response) + median(Sort::Share))
@@ -138,10 +158,27 @@ pub fn run(rounds: u64) -> bool {
     let (full, longest) = (Shape::full(), Shape::longest());
     let medians = rounds::run(&[full, longest], rounds);
     let title = "10 signers of 16 keys and 16 nonces, a message of 32 bytes, one share a signer";
-    p.against(title, &medians[0]);
+    p.sides(title, &medians[0]);
     let title = "The longest packets: a message of 256 bytes, a root, 16 shares a signer";
-    p.against(title, &medians[1]);
+    p.sides(title, &medians[1]);
     growths(&p, (rounds / 4).max(10));
     sizes(&rounds::lengths(&longest));
+    true
+}
+
+/// For ../../../measure: a line for each row, its name and the microseconds of the three sides.
+pub fn medians(rounds: u64) -> bool {
+    wsts::harness::set_noting(false);
+    let p = Printer { scale: ticks::microseconds_a_tick() };
+    let m = &rounds::run(&[Shape::full()], rounds.max(10))[0];
+    for (sort, name) in MEASURED {
+        let alone = sort == Sort::Aggregated;
+        let fire = |m: &Median| p.time(m[sort as usize].filter(|_| !alone));
+        let library = p.time(m.library[sort as usize]);
+        println!("{name}\t{}\t{}\t{library}", fire(&m.fire), fire(&m.surviving));
+    }
+    let [fire, surviving, library] =
+        [&m.fire, &m.surviving, &m.library].map(|m| p.time(Some(whole_round(m))));
+    println!("{ROUND}\t{fire}\t{surviving}\t{library}");
     true
 }

@@ -1,8 +1,8 @@
-//! Rounds on both sides in turns, and the time of each sort of call.
+//! Rounds on the three sides in turns, and the time of each sort of call.
 
 use super::{
     shape::{Both, Ids, Shape},
-    sides::{Came, FireSide, LibrarySide, Side, DKG_ID, SIGN_ID},
+    sides::{Came, FireSide, LibrarySide, Side, SurvivingSide, DKG_ID, SIGN_ID},
 };
 
 /// The sorts of calls that are timed.
@@ -15,11 +15,14 @@ pub enum Sort {
     Response,
     Completing,
     Share,
+    /// The last share with its job, up to the round's end.
     LastShare,
+    /// The library's two steps of it.
+    Job,
     Aggregated,
 }
 
-pub const SORTS: [Sort; 9] = [
+pub const SORTS: [Sort; 10] = [
     Sort::Start,
     Sort::Refused,
     Sort::Timeout,
@@ -28,20 +31,21 @@ pub const SORTS: [Sort; 9] = [
     Sort::Completing,
     Sort::Share,
     Sort::LastShare,
+    Sort::Job,
     Sort::Aggregated,
 ];
 
 /// The packets of one round, made before anything is timed.
-struct Packets {
-    refused: Both,
-    dropped: Both,
-    others: Vec<Both>,
-    responses: Vec<Both>,
-    shares: Vec<Both>,
+pub struct Packets {
+    pub refused: Both,
+    pub dropped: Both,
+    pub others: Vec<Both>,
+    pub responses: Vec<Both>,
+    pub shares: Vec<Both>,
 }
 
 impl Packets {
-    fn new(shape: &Shape, sign_iter_id: u64) -> Self {
+    pub fn new(shape: &Shape, sign_iter_id: u64) -> Self {
         let ids = Ids { dkg_id: DKG_ID, sign_id: SIGN_ID, sign_iter_id };
         let wrong = Ids { sign_id: SIGN_ID + 1, ..ids };
         Packets {
@@ -79,40 +83,49 @@ fn round(side: &mut dyn Side, shape: &Shape, p: &Packets, samples: &mut Samples)
     let job = side.process(last, Came::Job);
     let second = side.aggregated();
     note(Sort::LastShare, job + second);
+    note(Sort::Job, job);
     note(Sort::Aggregated, second);
 }
 
-/// Medians in ticks, for each sort: fire.rs and the library.
+/// The median of each sort in ticks.
+pub type Median = [Option<u64>; SORTS.len()];
+
+/// fire.rs alone, fire.rs that survives a crash, the library.
 pub struct Medians {
-    pub fire: [Option<u64>; SORTS.len()],
-    pub library: [Option<u64>; SORTS.len()],
+    pub fire: Median,
+    pub surviving: Median,
+    pub library: Median,
 }
 
-fn medians(samples: Samples) -> [Option<u64>; SORTS.len()] {
+fn median(samples: Samples) -> Median {
     samples.map(|mut list| {
         list.sort();
         list.get(list.len() / 2).copied()
     })
 }
 
+/// The samples of the three sides.
+type Sides = [Samples; 3];
+
+/// Each side follows each other one equally often.
+const TURNS: [[usize; 3]; 6] = [[0, 1, 2], [2, 1, 0], [1, 2, 0], [0, 2, 1], [2, 0, 1], [1, 0, 2]];
+
 /// `rounds` rounds of this shape on each side, one after the other; who begins changes. The
 /// samples are added to those of earlier passes.
-fn pass(shape: &Shape, rounds: u64, of_fire: &mut Samples, of_library: &mut Samples) {
-    let (mut fire, mut library) = (FireSide::new(shape), LibrarySide::new(shape));
+fn pass(shape: &Shape, rounds: u64, samples: &mut Sides) {
+    let mut sides: [Box<dyn Side>; 3] = [
+        Box::new(FireSide::new(shape)),
+        Box::new(SurvivingSide::new(shape)),
+        Box::new(LibrarySide::new(shape)),
+    ];
     let warm_up = rounds / 10 + 1;
-    let mut unused = Samples::default();
-    // Both count the iteration from 1 on.
+    let mut unused = Sides::default();
+    // All count the iteration from 1 on.
     for iteration in 1..=warm_up + rounds {
         let packets = Packets::new(shape, iteration);
-        if iteration <= warm_up {
-            round(&mut fire, shape, &packets, &mut unused);
-            round(&mut library, shape, &packets, &mut unused);
-        } else if iteration % 2 == 0 {
-            round(&mut fire, shape, &packets, of_fire);
-            round(&mut library, shape, &packets, of_library);
-        } else {
-            round(&mut library, shape, &packets, of_library);
-            round(&mut fire, shape, &packets, of_fire);
+        let to = if iteration <= warm_up { &mut unused } else { &mut *samples };
+        for i in TURNS[iteration as usize % TURNS.len()] {
+            round(&mut *sides[i], shape, &packets, &mut to[i]);
         }
     }
 }
@@ -121,14 +134,17 @@ fn pass(shape: &Shape, rounds: u64, of_fire: &mut Samples, of_library: &mut Samp
 /// all of them.
 pub fn run(shapes: &[Shape], rounds: u64) -> Vec<Medians> {
     const PASSES: u64 = 20;
-    let mut samples: Vec<(Samples, Samples)> = shapes.iter().map(|_| Default::default()).collect();
+    let mut samples: Vec<Sides> = shapes.iter().map(|_| Default::default()).collect();
     for _ in 0..PASSES {
-        for (shape, (fire, library)) in shapes.iter().zip(&mut samples) {
-            pass(shape, rounds.div_ceil(PASSES), fire, library);
+        for (shape, sides) in shapes.iter().zip(&mut samples) {
+            pass(shape, rounds.div_ceil(PASSES), sides);
         }
     }
-    let both = |(fire, library)| Medians { fire: medians(fire), library: medians(library) };
-    samples.into_iter().map(both).collect()
+    let medians = |sides: Sides| {
+        let [fire, surviving, library] = sides.map(median);
+        Medians { fire, surviving, library }
+    };
+    samples.into_iter().map(medians).collect()
 }
 
 /// Lengths of the packets in and out of a round of this shape.

@@ -9,7 +9,7 @@ use wsts::{
 
 use crate::{
     calls::{Commission, Inbound},
-    packet,
+    packet, saved,
     signature_type::SigType,
 };
 
@@ -25,9 +25,11 @@ pub struct Shape {
     pub signature_type: SigType,
 }
 
-/// A packet as each side gets it: fire.rs the structs of net.rs, the library bytes.
+/// A packet as each side gets it: fire.rs alone the structs of net.rs, fire.rs that survives a
+/// crash the bytes that serde gives them, the library 01's bytes.
 pub struct Both {
     pub decoded: Packet,
+    pub serialised: Vec<u8>,
     pub inbound: Inbound,
 }
 
@@ -48,7 +50,10 @@ fn point(n: u32) -> Point {
 
 fn both(msg: Message) -> Both {
     let inbound = Inbound { packet: packet::encode(&msg), verdict: true, agg_ok: true };
-    Both { decoded: Packet { msg, sig: vec![1] }, inbound }
+    let decoded = Packet { msg, sig: vec![1] };
+    let mut serialised = Vec::new();
+    saved::write_packet(&decoded, &mut serialised);
+    Both { decoded, serialised, inbound }
 }
 
 impl Shape {
