@@ -5,15 +5,12 @@
  * Only the call runs on that stack, with the frame that hands it its arguments; the program itself has its own.
  */
 #include "packets.h"
+#include "small_stack.h"
 
-#include <signal.h>
 #include <stdio.h>
-#include <stdlib.h>
 #include <string.h>
-#include <sys/mman.h>
-#include <unistd.h>
 
-enum { PAGE = 4096, SIGNERS = RC_SIGNER_LIMIT, KEYS = RC_KEY_LIMIT, DKG = 7, PAINT = 0xa5, LATE = 1000, NO_ID = 99 };
+enum { SIGNERS = RC_SIGNER_LIMIT, KEYS = RC_KEY_LIMIT, DKG = 7, LATE = 1000, NO_ID = 99 };
 
 /* What the next call is given; a story changes what it needs. Neither this nor what is answered is static: a compiler would not see that the calls below, which
  * are made past it, read and write them. */
@@ -120,52 +117,12 @@ static call calls[CALLS] = {
     [SHARE_RESPONSE] = {"rc_write_signature_share_response", RC_STACK_PACKET, write_share_response, 0, 0},
 };
 
-/* --- the small stack */
-
-static uint8_t *lowest; /* the first byte above the page that nobody may touch */
-static const call *running;
 static int failures;
-
-static void overrun(int number) {
-    static const char head[] = "WRONG: the header's stack is too small for ", end[] = "\n";
-    (void)number;
-    ssize_t told = write(1, head, sizeof head - 1);
-    if (running != NULL) told += write(1, running->name, strlen(running->name));
-    told += write(1, end, 1);
-    _exit(told < 0 ? 3 : 2);
-}
-
-static void open_stack(void) {
-    static uint8_t handlers[1 << 16];
-    const stack_t other = {.ss_sp = handlers, .ss_size = sizeof handlers};
-    struct sigaction action;
-    uint8_t *map = mmap(NULL, PAGE + RC_STACK, PROT_READ | PROT_WRITE, MAP_PRIVATE | MAP_ANONYMOUS, -1, 0);
-    if (map == MAP_FAILED || mprotect(map, PAGE, PROT_NONE) != 0) exit(3);
-    lowest = map + PAGE;
-    memset(&action, 0, sizeof action);
-    action.sa_handler = overrun;
-    action.sa_flags = SA_ONSTACK;
-    if (sigaltstack(&other, NULL) != 0 || sigaction(SIGSEGV, &action, NULL) != 0 || sigaction(SIGBUS, &action, NULL) != 0) exit(3);
-}
-
-/* Makes a call with the stack pointer at top. rbx outlives the call, so the old pointer waits there. */
-static void make_at(uint8_t *top, void (*make)(void)) {
-    __asm__ volatile("movq %%rsp, %%rbx\n\tmovq %0, %%rsp\n\tcallq *%1\n\tmovq %%rbx, %%rsp"
-                     :
-                     : "r"(top), "r"(make)
-                     : "rax", "rbx", "rcx", "rdx", "rsi", "rdi", "r8", "r9", "r10", "r11", "xmm0", "xmm1", "xmm2", "xmm3", "xmm4", "xmm5", "xmm6",
-                       "xmm7", "xmm8", "xmm9", "xmm10", "xmm11", "xmm12", "xmm13", "xmm14", "xmm15", "memory", "cc");
-}
 
 static void make(int which) {
     call *c = &calls[which];
-    size_t clean = 0;
-    memset(lowest, PAINT, c->stack);
-    running = c;
-    make_at(lowest + c->stack, c->make);
-    running = NULL;
-    while (clean < c->stack && lowest[clean] == PAINT) clean++;
-    if (c->stack - clean > c->deepest) c->deepest = c->stack - clean;
+    const size_t depth = small_stack_make(c->name, c->stack, c->make);
+    if (depth > c->deepest) c->deepest = depth;
     c->times++;
 }
 
@@ -510,7 +467,7 @@ static void responses(void) {
 }
 
 int main(void) {
-    open_stack();
+    small_stack_open();
     memset(bytes, 2, sizeof bytes);
     for (int i = 0; i <= KEYS; i++) ones[i] = 1;
     writes(); /* first, so that the first call of memcpy, where it is bound late, is on the smallest stack */
