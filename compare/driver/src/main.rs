@@ -1,5 +1,5 @@
 //! `compare run SEED CALLS [--break N]`, `compare run --replay FILE`, `compare bench [ROUNDS]`,
-//! `compare medians ROUNDS`. README.md says what they do.
+//! `compare medians ROUNDS`, `compare count`. README.md says what they do.
 
 use std::{process::ExitCode, time::Instant};
 
@@ -76,7 +76,8 @@ fn replay(file: &str) -> Result<bool, String> {
 }
 
 fn usage() -> bool {
-    eprintln!("run SEED CALLS [--break N] | run --replay FILE | bench [ROUNDS] | medians ROUNDS");
+    eprintln!("run SEED CALLS [--break N] | run --replay FILE | bench [ROUNDS]");
+    eprintln!("medians ROUNDS | count");
     false
 }
 
@@ -102,6 +103,7 @@ fn main() -> ExitCode {
         ["run", seed, calls, "--break", n] => run_words(seed, calls, Some(n)),
         ["bench"] => bench::run(2_000),
         ["bench", rounds] => rounds.parse().map_or_else(|_| usage(), bench::run),
+        ["count"] => bench::count::run(),
         ["medians", rounds] => rounds.parse().map_or_else(|_| usage(), bench::medians),
         _ => usage(),
     };

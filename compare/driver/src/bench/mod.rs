@@ -1,5 +1,6 @@
 //! Time per call, library against fire.rs, as tables.
 
+pub mod count;
 pub mod rounds;
 pub mod shape;
 pub mod sides;

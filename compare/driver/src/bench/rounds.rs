@@ -61,8 +61,8 @@ impl Packets {
 /// Samples in ticks, for each sort.
 pub type Samples = [Vec<u64>; SORTS.len()];
 
-fn round(side: &mut dyn Side, shape: &Shape, p: &Packets, samples: &mut Samples) {
-    let mut note = |sort: Sort, ticks: u64| samples[sort as usize].push(ticks);
+/// One round. Each call's ticks are noted right after it.
+pub fn round(side: &mut dyn Side, shape: &Shape, p: &Packets, note: &mut dyn FnMut(Sort, u64)) {
     note(Sort::Start, side.start(shape));
     note(Sort::Refused, side.process(&p.refused, Came::Refused));
     note(Sort::Timeout, side.timeout());
@@ -125,7 +125,8 @@ fn pass(shape: &Shape, rounds: u64, samples: &mut Sides) {
         let packets = Packets::new(shape, iteration);
         let to = if iteration <= warm_up { &mut unused } else { &mut *samples };
         for i in TURNS[iteration as usize % TURNS.len()] {
-            round(&mut *sides[i], shape, &packets, &mut to[i]);
+            let mut note = |sort: Sort, ticks| to[i][sort as usize].push(ticks);
+            round(&mut *sides[i], shape, &packets, &mut note);
         }
     }
 }
@@ -158,7 +159,7 @@ pub struct Lengths {
 pub fn lengths(shape: &Shape) -> Lengths {
     let packets = Packets::new(shape, 1);
     let mut library = LibrarySide::new(shape);
-    round(&mut library, shape, &packets, &mut Samples::default());
+    round(&mut library, shape, &packets, &mut |_, _| ());
     let out = library.out();
     // The job is the last packet written: its last pair says where it ends.
     let pairs = u16::from_le_bytes([out[2], out[3]]) as usize;

@@ -45,7 +45,7 @@ pub trait Side {
     fn timeout(&mut self) -> u64;
 }
 
-const TIMEOUTS: u64 = 16;
+pub const TIMEOUTS: u64 = 16;
 
 /// Ticks that `f` takes, and what it gives. A function of its own in the program, so that
 /// callgrind can be told to count what runs inside it.
