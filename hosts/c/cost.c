@@ -1,9 +1,11 @@
 /*
- * What each call costs, for compare/measure: rounds of ten signers of 16 keys, a message of 32 bytes, one share a signer; nonces and shares are made up.
+ * What each call costs, for compare/measure: rounds of ten signers of 16 keys, a message of 32 bytes, one share a signer. Nonces and shares
+ * are made up.
  *
- * Each call is made on a painted stack and told in a line: whether it is a row, whether it is one of the round's calls, how deep its stack got, its name.
- * Run by callgrind, which is told to count inside rc_ functions alone, its instructions are dumped under the same name. Everything that could change
- * the count from run to run is fixed: where the buffers and the stack lie to the byte within a page, and that memcpy is bound before.
+ * Each call is made on a painted stack and told in a line: whether it is a row, whether it is one of the round's calls, how deep its stack
+ * got, its name. Where callgrind runs the program, it counts inside rc_ functions alone, and each call's instructions are dumped under the
+ * same name. What could change a count from run to run is fixed: where buffers and stack begin within a page (copies look at that), and
+ * that the C library's functions are bound before the first call.
  */
 #include "packets.h"
 #include "small_stack.h"
@@ -27,10 +29,12 @@ typedef struct group {
 } group;
 
 /* The rehearsal is there for its share request. */
-static const group rehearsal = {1, 0, UNTOLD, UNTOLD, ""}, plain = {1, 0, ROW | OF_ROUND, ROW | OF_ROUND, ""},
-                   apart = {256, 0, UNTOLD, ROW, ", keys 256 apart"}, descending = {1, 1, UNTOLD, ROW, ", signers named in descending order"};
+static const group rehearsal = {1, 0, UNTOLD, UNTOLD, ""};
+static const group plain = {1, 0, ROW | OF_ROUND, ROW | OF_ROUND, ""};
+static const group apart = {256, 0, UNTOLD, ROW, ", keys 256 apart"};
+static const group descending = {1, 1, UNTOLD, ROW, ", signers named in descending order"};
 
-/* What calls are given and answer. Not static: a compiler would not see that the calls below, which are made past it, read and write them. */
+/* What calls are given and answer. Not static: a compiler would not see that the calls below, made past it, read and write them. */
 _Alignas(PAGE) uint8_t state[RC_STATE_LENGTH];
 _Alignas(PAGE) uint8_t store[RC_STORE_LENGTH];
 _Alignas(PAGE) uint8_t out[RC_ANSWER_LENGTH];
@@ -99,20 +103,20 @@ static void give(rc_written w) {
 /* All keys are the signer's own, in the order of its set. */
 static void give_nonces(const group *g, uint32_t signer, uint64_t sign) {
     static uint8_t nonces[KEYS * NONCE_LENGTH];
+    const rc_response_head head = {DKG, sign, ITERATION, signer, 0};
     uint32_t keys[KEYS];
     memset(nonces, 7, sizeof nonces);
     for (uint32_t k = 0; k < KEYS; k++) keys[k] = key_of(g, signer, k);
-    give(rc_write_nonce_response(inbound.bytes, sizeof inbound.bytes, (rc_response_head){DKG, sign, ITERATION, signer, 0}, message, sizeof message, keys,
-                                 KEYS, nonces, sizeof nonces));
+    give(rc_write_nonce_response(inbound.bytes, sizeof inbound.bytes, head, message, sizeof message, keys, KEYS, nonces, sizeof nonces));
 }
 
 static void give_share(const group *g, uint32_t signer) {
     static const uint8_t z_i[Z_LENGTH] = {5};
+    const rc_response_head head = {DKG, SIGN, ITERATION, signer, 0};
     const uint32_t count = KEYS;
     uint32_t keys[KEYS];
     for (uint32_t k = 0; k < KEYS; k++) keys[k] = key_of(g, signer, k);
-    give(rc_write_signature_share_response(inbound.bytes, sizeof inbound.bytes, (rc_response_head){DKG, SIGN, ITERATION, signer, 0}, &signer, 1, z_i,
-                                           Z_LENGTH, &count, 1, keys, KEYS));
+    give(rc_write_signature_share_response(inbound.bytes, sizeof inbound.bytes, head, &signer, 1, z_i, Z_LENGTH, &count, 1, keys, KEYS));
 }
 
 /* Commissioned and started. */

@@ -9,7 +9,8 @@
 /* First of all. Whoever overruns the stack ends the program, with a line that names the call. */
 void small_stack_open(void);
 
-/* Makes the call on a stack of that many bytes, at most RC_STACK, and gives how many of them it used: the frame that hands it its arguments is among them. */
+/* Makes the call on a stack of that many bytes, at most RC_STACK, and gives how many of them it used. The frame that hands the call its
+ * arguments is among them. */
 size_t small_stack_make(const char *name, size_t length, void (*make)(void));
 
 #endif
