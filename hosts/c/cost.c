@@ -1,6 +1,6 @@
 /*
- * What each call costs, for compare/measure: rounds of ten signers of 16 keys, a message of 32 bytes, one share a signer. Nonces and shares
- * are made up.
+ * What each call costs, for compare/measure: rounds of ten signers of 16 keys, a message of 32 bytes, one share a signer. Nonces and
+ * shares are made up.
  *
  * Each call is made on a painted stack and told in a line: whether it is a row, whether it is one of the round's calls, how deep its stack
  * got, its name. Where callgrind runs the program, it counts inside rc_ functions alone, and each call's instructions are dumped under the

@@ -7,8 +7,8 @@ fn hex_of(f: &mut std::fmt::Formatter<'_>, bytes: &[u8]) -> std::fmt::Result {
     f.write_str(&hex::encode(bytes))
 }
 
-/// Serialises an array of any length as a byte string (serde has arrays only up to 32): the form
-/// that a serialiser writes and reads quickest, whole and without an allocation.
+/// Serialises an array of any length as a byte string (serde has arrays only up to 32), which
+/// bincode copies whole, and reads without an allocation.
 mod array {
     use serde::{
         de::{Error, Visitor},
