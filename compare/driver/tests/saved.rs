@@ -92,7 +92,9 @@ fn with_results(s: &mut SavedState) {
 
 #[test]
 fn every_field_comes_back() {
-    let mut s = Round::gathering_shares(worked()).both.fire.saved().unwrap().clone();
+    let mut r = Round::gathering_shares(worked());
+    r.share(1, &[2, 3]);
+    let mut s = r.both.fire.saved().unwrap().clone();
     let record = s.message_nonces.values_mut().next().expect("a record");
     record.sign_recv_key_ids.extend([1, 3]);
     with_key_generation(&mut s);
