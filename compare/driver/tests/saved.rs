@@ -95,8 +95,6 @@ fn every_field_comes_back() {
     let mut r = Round::gathering_shares(worked());
     r.share(1, &[2, 3]);
     let mut s = r.both.fire.saved().unwrap().clone();
-    let record = s.message_nonces.values_mut().next().expect("a record");
-    record.sign_recv_key_ids.extend([1, 3]);
     with_key_generation(&mut s);
     with_results(&mut s);
     comes_back(&s);
