@@ -15,7 +15,7 @@ use Rattle.state.specs.declared.answers.Answer.{Answer}
 use Rattle.state.specs.declared.answers.Done.{Done}
 use Rattle.state.specs.declared.fields.Coordinator.{Coordinator}
 use Rattle.state_bytes.specs.Saved.{saved}
-use Rattle.state_bytes.specs.Fits.{Saves}
+use Rattle.state_bytes.specs.Saved.{Saves}
 use Rattle.state_bytes.specs.Loaded.{isSaved, loaded}
 use Rattle.state_bytes.proofs.Loads.{load-put}
 use Rattle.interface.specs.declared.answers.RcAnswer.{RcAnswer}

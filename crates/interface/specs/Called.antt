@@ -6,7 +6,7 @@ use mathlib.Core.List.{List, _++_}
 use lib.ListN.{length, drop}
 use Rattle.state.specs.Turns.{Turn, answerOf}
 use Rattle.wire.specs.Bytes.{put}
-use Rattle.state_bytes.specs.Places.{stateLength}
+use Rattle.state_bytes.specs.Saved.{stateLength}
 use Rattle.state_bytes.specs.Saved.{saved}
 use Rattle.state_bytes.specs.Loaded.{loaded}
 use Rattle.interface.specs.declared.answers.RcAnswer.{RcAnswer}

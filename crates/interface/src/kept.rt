@@ -3,7 +3,7 @@ ghost use mathlib.Core.Path.{_≡_};
 ghost use mathlib.Core.Bool.{cond};
 ghost use Rattle.wire.specs.Bytes.{put};
 ghost use Rattle.state_bytes.specs.Saved.{saved};
-ghost use Rattle.state_bytes.specs.Fits.{Saves};
+ghost use Rattle.state_bytes.specs.Saved.{Saves};
 ghost use Rattle.interface.specs.Answers.{flat};
 use crate::answers;
 use crate::answers::RcAnswer;

@@ -6,7 +6,7 @@ use lib.Dec.{leb}
 use Rattle.state.specs.Turns.{Turn, errorTurn}
 use Rattle.configuration.specs.declared.new_config.NewConfig.{NewConfig}
 use Rattle.commission.specs.Commission.{commissionTurn}
-use Rattle.state_bytes.specs.Places.{stateLength}
+use Rattle.state_bytes.specs.Saved.{stateLength}
 use Rattle.state_bytes.specs.Loaded.{unsaved}
 
 -- a state buffer that is too short for a state is refused with 4

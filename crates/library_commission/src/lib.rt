@@ -2,7 +2,7 @@
 ghost use mathlib.Core.List.{[]};
 ghost use lib.Dec.{leb};
 ghost use lib.ListN.{length};
-ghost use Rattle.state_bytes.specs.Places.{stateLength};
+ghost use Rattle.state_bytes.specs.Saved.{stateLength};
 ghost use Rattle.interface.specs.Configs.{configOf};
 ghost use Rattle.interface.specs.Called.{Called};
 ghost use Rattle.library_commission.specs.Commissioned.{commissionedTurn};

@@ -19,7 +19,7 @@ use Rattle.state.specs.declared.fields.Coordinator.{Coordinator}
 use Rattle.state.specs.Turns.{errorTurn}
 use Rattle.starts.specs.declared.naming.SignId.{SignId}
 use Rattle.starts.specs.Starts.{signIdOf}
-use Rattle.loading_arrays.proofs.Copied.{over-zeros}
+use Rattle.form.proofs.Reading.{over-zeros}
 use Rattle.library_start.specs.Given.{lastType, lastState, rootGiven, signIdGiven, typeSaid, startedTurn, movedTurn}
 
 -- every type that 01 has is said, with the root that 01 gives it: "root (32 bytes for type 3, else 0)"

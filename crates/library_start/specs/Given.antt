@@ -12,7 +12,7 @@ use Rattle.calls.specs.Calls.{moveTurn}
 use Rattle.starts.specs.declared.naming.SignId.{SignId}
 use Rattle.starts.specs.declared.naming.SignId.the-variants.{Next, Given}
 use Rattle.starts.specs.Starts.{startTurn}
-use Rattle.state_bytes.specs.Loaded.{stateFor}
+use Rattle.state_bytes.specs.Description.{stateFor}
 
 -- the last type, Taproot with a root, and the last state, SigShareGather, by number
 abbrev pub lastType : ℕ

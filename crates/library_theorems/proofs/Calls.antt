@@ -17,7 +17,7 @@ use Rattle.step_definition.specs.Calls as A
 use Rattle.step_definition.specs.Run.{Seen, run, final, maliciousIn}
 use Rattle.state.specs.Turns.{Turn, asked, unless}
 use Rattle.process_timeout.specs.ProcessTimeout.{askingTimeout, processTimeoutTurn}
-use Rattle.state_bytes.specs.Places.{stateLength}
+use Rattle.state_bytes.specs.Saved.{stateLength}
 use Rattle.state_bytes.specs.Saved.{saved}
 use Rattle.state_bytes.specs.Loaded.{isSaved, loaded, unsaved}
 use Rattle.state_bytes.proofs.Loads.{unsaved-loaded, unsaved-uncommissioned}

@@ -1,24 +1,23 @@
 -- The arrays of a struct that is loaded have their lengths, and its numbers are of their types, whatever the bytes.
 -- Assumes nothing.
-use Prim.Native.Nat.{ℕ, zero, suc, _+_, _≤_}
+use Prim.Native.Nat.{ℕ, zero, suc, _+_}
 use mathlib.Core.Path.{_≡_, refl, ap, _∙_}
 use mathlib.Core.Bool.{Bool, true, false}
 use mathlib.Core.List.{List}
 use native.Mathlib.Omega.{arith}
-use borrow.Author.Tests.{leb-true}
-use lib.Dec.{leb}
-use lib.ListN.{length, replicate, length-replicate, length-map, length-drop, drop}
-use lib.Seq.{length-take-le}
+use lib.ListN.{length, replicate, length-replicate, length-map}
 use mir.Val.{Val}
 use denote.Laws.{Is}
 use Rattle.wire.specs.Bytes.{All, Bytes}
 use Rattle.wire.proofs.Buffer.{length-put}
-use Rattle.wire.proofs.Lists.{and-left}
-use Rattle.wire.proofs.Numbers.{number-at-lt, bytes-take, bytes-drop}
-use Rattle.layout.specs.Limits.{messageLimit}
+use Rattle.wire.proofs.Numbers.{number-at-lt}
 use Rattle.layout.specs.Types.{rootLength}
-use Rattle.state_bytes.specs.Places.{stateLength, idsStart, positionStart, messageStart}
-use Rattle.state_bytes.specs.Loaded.{eachAt, bytesAt, configAt, positionAt, messageAt, recordsAt, rowAt, idsAt, stateAt, isSaved, loaded}
+use Rattle.layout.specs.Fits.{IdsFit}
+use Rattle.form.specs.Form.{bytesAt, eachAt, pieces}
+use Rattle.form.proofs.Lawful.{bytes-long}
+use Rattle.state_bytes.specs.Description.{idsForm, positionForm, messageForm, coordinatorForm, description}
+use Rattle.state_bytes.specs.Saved.{stateLength}
+use Rattle.state_bytes.specs.Loaded.{stateAt, isSaved, loaded}
 use Rattle.interface.specs.declared.configs.RcConfig.{RcConfig}
 use Rattle.interface.specs.Configs.{configOf}
 use Rattle.interface.proofs.configs.RcConfig as RcConfig-row
@@ -39,41 +38,48 @@ module _ {A : Type 0} (f : List ℕ → ℕ → A) (w : ℕ) (s : List ℕ) wher
   all-each-at P h at zero = tt
   all-each-at P h at (suc n) = (h at, all-each-at P h (at + w) n)
 
-length-bytes-at : (s : List ℕ) (at n : ℕ) → at + n ≤ length s → length (bytesAt s at n) ≡ n
-length-bytes-at s at n l = length-take-le n (drop at s) (omega (arith, length-drop at s))
-
-formed-at : (s : List ℕ) → stateLength ≤ length s → Formed (stateAt s)
-unfolding stateAt configAt positionAt messageAt recordsAt rowAt
-formed-at s l =
+formed-at : (s : List ℕ) → Formed (stateAt s)
+unfolding stateAt description
+formed-at s =
     record {
       signers = length-each-at _ _ s _ _;
       rows = length-each-at _ _ s _ _;
       slots = all-each-at _ _ s _ (λ at. length-each-at _ _ s _ _) _ _;
       shares = length-each-at _ _ s _ _;
-      bytes = length-bytes-at s messageStart messageLimit (omega arith);
-      root = length-bytes-at s (positionStart + 2) 32 (omega arith);
+      bytes = bytes-long s _ _;
+      root = bytes-long s _ _;
     }
 
 pub loaded-formed : (b : List ℕ) → Formed (loaded b)
-unfolding loaded isSaved
+unfolding loaded
 loaded-formed b = by (isSaved b) refl
   where
     by : (y : Bool) → isSaved b ≡ y → Formed (loaded b)
-    by true e = rw e (formed-at b (leb-true _ _ (and-left (leb stateLength (length b)) _ e)))
-    by false e = rw e (formed-at (replicate stateLength 0) (omega (arith, length-replicate {A = ℕ} stateLength 0)))
+    by true e = rw e (formed-at b)
+    by false e = rw e (formed-at (replicate stateLength 0))
+
+bytes-said : (s : List ℕ) → Bytes s → (at n : ℕ) → Bytes (bytesAt s at n)
+unfolding bytesAt
+bytes-said s b at zero i = omega arith
+bytes-said s b at (suc n) zero = b at
+bytes-said s b at (suc n) (suc i) = bytes-said s b (at + 1) n i
+
+ids-said : (s : List ℕ) → Bytes s → (at : ℕ) → IdsFit (idsForm .load s at)
+unfolding idsForm pieces
+ids-said s b at =
+    record {
+      dkg-id = number-at-lt 8 at s b;
+      sign-id = number-at-lt 8 (at + 8) s b;
+      sign-iter-id = number-at-lt 8 (at + 16) s b;
+    }
 
 fits-at : (s : List ℕ) → Bytes s → Fits (stateAt s)
-unfolding stateAt positionAt messageAt idsAt
+unfolding stateAt coordinatorForm pieces positionForm messageForm
 fits-at s b =
     record {
-      ids =
-          record {
-            dkg-id = number-at-lt 8 idsStart s b;
-            sign-id = number-at-lt 8 (idsStart + 8) s b;
-            sign-iter-id = number-at-lt 8 (idsStart + 16) s b;
-          };
-      message = bytes-take messageLimit (drop messageStart s) (bytes-drop messageStart s b);
-      root = bytes-take 32 (drop (positionStart + 2) s) (bytes-drop (positionStart + 2) s b);
+      ids = ids-said s b _;
+      message = bytes-said s b _ _;
+      root = bytes-said s b _ _;
     }
 
 zeros-bytes : (n : ℕ) → Bytes (replicate n 0)

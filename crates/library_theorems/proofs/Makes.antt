@@ -13,7 +13,7 @@ use Rattle.step_definition.specs.Calls as A
 use Rattle.step_definition.specs.Run.{Seen, maliciousIn}
 use Rattle.state.specs.Turns as T
 use Rattle.state.specs.Turns.{Turn, said, answerOf}
-use Rattle.state_bytes.specs.Places.{stateLength}
+use Rattle.state_bytes.specs.Saved.{stateLength}
 use Rattle.state_bytes.specs.Saved.{saved}
 use Rattle.state_bytes.specs.Loaded.{loaded}
 use Rattle.state_bytes.proofs.Loads.{load-put}

@@ -14,7 +14,7 @@ use Rattle.wire.specs.Bytes.{put}
 use Rattle.wire.proofs.Lists.{and-left}
 use Rattle.wire.proofs.Buffer.{put-inside}
 use Rattle.state.specs.Turns.{Turn, errorTurn}
-use Rattle.state_bytes.specs.Places.{stateLength}
+use Rattle.state_bytes.specs.Saved.{stateLength}
 use Rattle.state_bytes.specs.Saved.{saved}
 use Rattle.state_bytes.specs.Loaded.{isSaved, loaded, unsaved}
 use Rattle.state_bytes.proofs.Loads.{unsaved-loaded, unsaved-uncommissioned, saved-bytes}

@@ -6,8 +6,10 @@ use Rattle.layout.specs.Types.{typeOf}
 use Rattle.validity.specs.Keys.{keyPlaces}
 use Rattle.configuration.specs.Made.{blankConfig}
 use Rattle.commission.specs.Commission.{noRecords, noMarks, noMessage, atIdle, uncommissionedStruct}
-use Rattle.state_bytes.specs.Loaded.{unsaved, stateAt, eachAt, readingAt, timeoutsAt, signerAt, configAt, idsAt, stateFor, positionAt, messageAt, slotAt, rowAt, recordsAt, sharesAt, marksAt, clocksAt, keysAt}
+use Rattle.form.specs.Form.{bytesAt, eachAt}
+use Rattle.state_bytes.specs.Description.{stateFor, description}
+use Rattle.state_bytes.specs.Loaded.{unsaved, stateAt}
 
 pub uncommissioned-zeros : uncommissionedStruct ≡ unsaved
-unfolding uncommissionedStruct blankConfig noRecords noMarks noMessage atIdle stateAt eachAt readingAt timeoutsAt signerAt configAt idsAt stateFor positionAt messageAt slotAt rowAt recordsAt sharesAt marksAt clocksAt keysAt number typeOf keyPlaces
+unfolding uncommissionedStruct blankConfig noRecords noMarks noMessage atIdle stateAt description bytesAt eachAt stateFor number typeOf keyPlaces
 uncommissioned-zeros = refl

@@ -6,7 +6,7 @@ use lib.ListN.{length, take, drop}
 use Rattle.wire.specs.Bytes.{put}
 use Rattle.state.specs.Turns.{Turn}
 use Rattle.state_bytes.specs.Saved.{saved}
-use Rattle.state_bytes.specs.Fits.{Saves}
+use Rattle.state_bytes.specs.Saved.{Saves}
 use Rattle.coordinator_theorems.specs.Host.{GivenArrays}
 use Rattle.library_theorems.specs.Library.{Buffers, LibraryCall, requestOf, libraryTurn, saves}
 

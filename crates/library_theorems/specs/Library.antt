@@ -14,8 +14,9 @@ use Rattle.step_definition.specs.Run.{Seen, maliciousIn}
 use Rattle.state.specs.Turns.{Turn, errorTurn}
 use Rattle.calls.specs.declared.held_keys.HeldKey.{HeldKey}
 use Rattle.packet_entry.specs.declared.Entry.{Entry}
-use Rattle.state_bytes.specs.Places.{stateLength}
-use Rattle.state_bytes.specs.Loaded.{stateFor, unsaved, isSaved, loaded}
+use Rattle.state_bytes.specs.Saved.{stateLength}
+use Rattle.state_bytes.specs.Description.{stateFor}
+use Rattle.state_bytes.specs.Loaded.{unsaved, isSaved, loaded}
 use Rattle.interface.specs.declared.answers.RcAnswer.{RcAnswer}
 use Rattle.interface.specs.declared.configs.RcConfig.{RcConfig}
 use Rattle.interface.specs.Answers.{told}

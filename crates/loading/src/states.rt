@@ -1,9 +1,8 @@
 // A whole state.
-ghost use Prim.Native.Nat.{_≤_, _+_};
+ghost use Prim.Native.Nat.{_≤_};
 ghost use mathlib.Core.Path.{_≡_};
-ghost use lib.ListN.{length};
-ghost use Rattle.state_bytes.specs.Places.{stateLength};
-ghost use Rattle.state_bytes.specs.Loaded.{configAt, stateFor, positionAt, messageAt, stateAt};
+ghost use Rattle.state_bytes.specs.Description.{configForm, stateFor, positionForm, messageForm};
+ghost use Rattle.state_bytes.specs.Loaded.{stateAt};
 use layout::MESSAGE_LIMIT;
 use layout::ROOT_LENGTH;
 use layout::SignatureType;
@@ -17,30 +16,41 @@ use state::fields::Shares;
 use state_bytes::CLOCKS_START;
 use state_bytes::COMMISSIONED_START;
 use state_bytes::CONFIG_START;
+use state_bytes::DKG_THRESHOLD;
 use state_bytes::IDS_START;
 use state_bytes::JOB_START;
 use state_bytes::KEYS_START;
 use state_bytes::MARKS_START;
+use state_bytes::MESSAGE_LEN;
 use state_bytes::MESSAGE_START;
+use state_bytes::NUM_KEYS;
 use state_bytes::POSITION_START;
 use state_bytes::RECORDS_START;
+use state_bytes::ROOT;
 use state_bytes::SHARES_START;
+use state_bytes::SIGN_THRESHOLD;
+use state_bytes::SIGNATURE_TYPE;
+use state_bytes::SIGNER_COUNT;
+use state_bytes::SIGNERS;
+use state_bytes::THRESHOLD;
+use state_bytes::TIMEOUTS;
+use state_bytes::VERIFY_PACKET_SIGS;
 use state_table::State;
 
 fn config_at(s: &[u8], at: usize) -> Config
     requires { ⌜ at ≤ 2048 ⌝ }
-    ensures { λ r. ⌜ r ≡ configAt (now (s .entry)) at ⌝ }
+    ensures { λ r. ⌜ r ≡ configForm .load (now (s .entry)) at ⌝ }
 {
-    let timeouts = fields::timeouts_at(s, at + 20);
-    let signers = arrays::signers_at(s, at + 65);
-    let count = wire::u64_at(s, at + 835) as usize;
-    let verify_packet_sigs = fields::flag_at(s, at + 843);
+    let timeouts = fields::timeouts_at(s, at + TIMEOUTS);
+    let signers = arrays::signers_at(s, at + SIGNERS);
+    let count = wire::u64_at(s, at + SIGNER_COUNT) as usize;
+    let verify_packet_sigs = fields::flag_at(s, at + VERIFY_PACKET_SIGS);
     Config {
         num_signers: wire::u32_at(s, at),
-        num_keys: wire::u32_at(s, at + 4),
-        threshold: wire::u32_at(s, at + 8),
-        dkg_threshold: wire::u32_at(s, at + 12),
-        sign_threshold: wire::u32_at(s, at + 16),
+        num_keys: wire::u32_at(s, at + NUM_KEYS),
+        threshold: wire::u32_at(s, at + THRESHOLD),
+        dkg_threshold: wire::u32_at(s, at + DKG_THRESHOLD),
+        sign_threshold: wire::u32_at(s, at + SIGN_THRESHOLD),
         timeouts,
         signers,
         count,
@@ -72,30 +82,29 @@ pub fn state_for(n: u8, t: SignatureType) -> State
 }
 
 fn position_at(s: &[u8], at: usize) -> Position
-    requires { ⌜ at + 34 ≤ length (now s) ⌝ }
-    ensures { λ r. ⌜ r ≡ positionAt (now (s .entry)) at ⌝ }
+    requires { ⌜ at ≤ 4096 ⌝ }
+    ensures { λ r. ⌜ r ≡ positionForm .load (now (s .entry)) at ⌝ }
 {
     let n = wire::byte(s, at);
-    let t = layout::signature_type(wire::byte(s, at + 1));
+    let t = layout::signature_type(wire::byte(s, at + SIGNATURE_TYPE));
     let state = state_for(n, t);
     let mut root = [0u8; ROOT_LENGTH];
-    wire::copy(&mut root, 0, wire::part(s, at + 2, ROOT_LENGTH));
+    wire::copy(&mut root, 0, wire::part(s, at + ROOT, ROOT_LENGTH));
     Position { state, root }
 }
 
 fn message_at(s: &[u8], at: usize) -> Message
-    requires { ⌜ at + 264 ≤ length (now s) ⌝ }
-    ensures { λ r. ⌜ r ≡ messageAt (now (s .entry)) at ⌝ }
+    requires { ⌜ at ≤ 4096 ⌝ }
+    ensures { λ r. ⌜ r ≡ messageForm .load (now (s .entry)) at ⌝ }
 {
     let mut bytes = [0u8; MESSAGE_LIMIT];
     wire::copy(&mut bytes, 0, wire::part(s, at, MESSAGE_LIMIT));
-    let len = wire::u64_at(s, at + 256) as usize;
+    let len = wire::u64_at(s, at + MESSAGE_LEN) as usize;
     Message { bytes, len }
 }
 
 // What the bytes say, field by field.
 pub fn state_at(s: &[u8]) -> Coordinator
-    requires { ⌜ stateLength ≤ length (now s) ⌝ }
     ensures { λ r. ⌜ r ≡ stateAt (now (s .entry)) ⌝ }
 {
     let commissioned = fields::flag_at(s, COMMISSIONED_START);

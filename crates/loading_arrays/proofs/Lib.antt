@@ -1,3 +1,1 @@
--- Laws of reading arrays and of the bytes of a state.
-pub mod Each
-pub mod Copied
+-- Nothing of its own.

@@ -18,7 +18,7 @@ ghost use Rattle.job.specs.Job.{writeJob};
 ghost use Rattle.responses.specs.Responses.{writeNonceResponse, writeSignatureShareResponse};
 ghost use Rattle.library_writers.specs.Given.{headOf, responseHeadOf, signersGiven, responsesOf, jobPlacesOf};
 ghost use Rattle.library_writers.specs.Written.{typed, WrotePlain};
-ghost use Rattle.state_bytes.specs.Places.{stateLength};
+ghost use Rattle.state_bytes.specs.Saved.{stateLength};
 ghost use Rattle.interface.specs.Configs.{configOf, isYes};
 ghost use Rattle.interface.specs.Called.{Called};
 ghost use Rattle.library_commission.specs.Commissioned.{commissionedTurn};

@@ -1,2 +1,1 @@
--- How many bytes arrays take.
-pub mod Sizes
+-- Nothing of its own.

@@ -1,2 +1,1 @@
--- Pieces and elements written one after the other.
-pub mod Writing
+-- Nothing of its own: what is written is in the proofs of the functions.

@@ -1,7 +1,7 @@
--- What is saved is loaded as it was.
-pub mod Standing
-pub mod Back
-pub mod AllSaves
+-- What holds of the saved form.
+pub mod Described
 pub mod Loads
 pub mod Front
+pub mod AllSaves
+pub mod Tested
 pub mod Table

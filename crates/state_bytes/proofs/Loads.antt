@@ -1,7 +1,7 @@
 -- What is saved is loaded as it was; and bytes that no save left count as the uncommissioned state.
 -- Assumes nothing.
 use Prim.Native.Nat.{ℕ, _+_, _≤_}
-use mathlib.Core.Path.{_≡_, refl, sym}
+use mathlib.Core.Path.{_≡_, refl, sym, _∙_}
 use mathlib.Core.Bool.{true, false}
 use mathlib.Core.List.{List, [], _++_}
 use native.Mathlib.Omega.{arith}
@@ -9,16 +9,26 @@ use borrow.Author.Tests.{le-leb}
 use lib.Dec.{leb}
 use lib.ListN.{length, take, drop, length-append}
 use lib.Seq.{take-at}
-use Rattle.wire.specs.Bytes.{put}
+use Rattle.wire.specs.Bytes.{le, put}
 use Rattle.wire.proofs.Lists.{and-right}
 use Rattle.wire.proofs.SameBytes.{same-is, same-self}
 use Rattle.wire.proofs.Buffer.{put-inside}
 use Rattle.state.specs.declared.fields.Coordinator.{Coordinator}
-use Rattle.state_bytes.specs.Places.{stateLength}
-use Rattle.state_bytes.specs.Saved.{saved}
-use Rattle.state_bytes.specs.Fits.{Saves}
+use Rattle.form.specs.Form.{pieces}
+use Rattle.form.proofs.Standing.{Stands}
+use Rattle.state_bytes.specs.Description.{coordinatorForm}
+use Rattle.state_bytes.specs.Saved.{stateLength, saved, Saves}
 use Rattle.state_bytes.specs.Loaded.{stateAt, unsaved, isSaved, loaded}
-use Rattle.state_bytes.proofs.Back.{length-saved, state-said}
+use Rattle.state_bytes.proofs.Described.{coordinator-lawful, coordinator-long}
+
+pub length-saved : (s : Coordinator) → Saves s → length (saved s) ≡ stateLength
+unfolding saved Saves
+length-saved s f = coordinator-lawful .long s f ∙ coordinator-long
+
+-- what is said of bytes where a saved state stands
+pub state-said : (b : List ℕ) (s : Coordinator) → Saves s → Stands b 0 (saved s) → stateAt b ≡ s
+unfolding saved Saves stateAt
+state-said b s f h = coordinator-lawful .back s f h
 
 -- a saved state, whatever stands after it, is known as one and loaded as it was
 pub is-saved : (s : Coordinator) → Saves s → (rest : List ℕ) → isSaved (saved s ++ rest) ≡ true
@@ -52,5 +62,5 @@ unfolding loaded isSaved
 saved-bytes b y = rw y (sym (same-is (saved (stateAt b)) (take stateLength b) (and-right (leb stateLength (length b)) _ y)))
 
 pub unsaved-uncommissioned : unsaved .commissioned ≡ false
-unfolding stateAt
+unfolding stateAt coordinatorForm pieces le
 unsaved-uncommissioned = refl

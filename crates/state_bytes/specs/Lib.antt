@@ -1,6 +1,6 @@
 -- The coordinator's state as bytes.
-pub mod Places
+pub mod Version
+pub mod Description
 pub mod Saved
-pub mod Fits
 pub mod Loaded
 pub mod Table

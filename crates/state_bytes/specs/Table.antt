@@ -1,10 +1,10 @@
--- The saved form as a table: each field's name, the place of its first byte and its bytes, for a struct with a value of its own in each
--- field. The bytes of the table one after the other are all that is saved. A host that looks at a file can hold it against this.
+-- The saved form as a table: each field's name and its bytes, for a struct with a value of its own in each field. The bytes of the table one after
+-- the other are all that is saved, so each field stands after the bytes of those before it.
 use Prim.Native.Nat.{ℕ, _+_}
 use Prim.Native.String.{String}
 use mathlib.Core.Bool.{Bool, true, false}
 use mathlib.Core.List.{List, [], _∷_, _++_}
-use lib.ListN.{length, take, drop, replicate}
+use lib.ListN.{take, replicate}
 use Rattle.wire.specs.Bytes.{joined}
 use Rattle.layout.specs.declared.Ids.{Ids}
 use Rattle.layout.specs.declared.SignatureType.the-variants.{Frost, Schnorr, Taproot, TaprootRoot}
@@ -23,7 +23,7 @@ use Rattle.state.specs.declared.fields.ResponseSlot.{ResponseSlot}
 use Rattle.state.specs.declared.fields.SignRoundInfo.{SignRoundInfo}
 use Rattle.state.specs.declared.fields.ShareSlot.{ShareSlot}
 use Rattle.state.specs.declared.fields.Coordinator.{Coordinator}
-use Rattle.state_bytes.specs.Saved.{savedPosition}
+use Rattle.state_bytes.specs.Description.{positionForm}
 
 -- Numbers of four and of eight bytes that differ in each byte; and their bytes.
 abbrev n4 : ℕ → ℕ
@@ -107,18 +107,13 @@ struct f =
 -- The table.
 pub record Field : Type 0 where
   pub name : String
-  pub place : ℕ
   pub bytes : List ℕ
 
-abbrev field : String → ℕ → List ℕ → Field
-field name place bytes = record { name = name; place = place; bytes = bytes }
+abbrev field : String → List ℕ → Field
+field name bytes = record { name = name; bytes = bytes }
 
 abbrev pub bytesOf : Field → List ℕ
 bytesOf f = f .bytes
-
--- the field with what stands at its place in these bytes
-unfoldable pub fieldIn : List ℕ → Field → Field
-fieldIn s f = field (f .name) (f .place) (take (length (f .bytes)) (drop (f .place) s))
 
 abbrev flag : Bool → List ℕ
 flag true = 1 ∷ []
@@ -133,87 +128,87 @@ times n bytes = joined (replicate n bytes)
 -- from the mark to the signers
 abbrev head : Flags → List Field
 head f =
-    field "mark, ROUNDCAB" 0 (82 ∷ 79 ∷ 85 ∷ 78 ∷ 68 ∷ 67 ∷ 65 ∷ 66 ∷ [])
-    ∷ field "version" 8 (1 ∷ replicate 7 0)
-    ∷ field "commissioned" 16 (flag (f .commissioned))
-    ∷ field "num_signers" 17 (four 11)
-    ∷ field "num_keys" 21 (four 12)
-    ∷ field "threshold" 25 (four 13)
-    ∷ field "dkg_threshold" 29 (four 14)
-    ∷ field "sign_threshold" 33 (four 15)
-    ∷ field "dkg_public timeout: whether, nanoseconds" 37 (1 ∷ eight 21)
-    ∷ field "dkg_private timeout" 46 (replicate 9 0)
-    ∷ field "dkg_end timeout" 55 (1 ∷ eight 23)
-    ∷ field "nonce timeout" 64 (1 ∷ eight 24)
-    ∷ field "sign timeout" 73 (1 ∷ eight 25)
+    field "mark, ROUNDCAB" (82 ∷ 79 ∷ 85 ∷ 78 ∷ 68 ∷ 67 ∷ 65 ∷ 66 ∷ [])
+    ∷ field "version" (1 ∷ replicate 7 0)
+    ∷ field "commissioned" (flag (f .commissioned))
+    ∷ field "num_signers" (four 11)
+    ∷ field "num_keys" (four 12)
+    ∷ field "threshold" (four 13)
+    ∷ field "dkg_threshold" (four 14)
+    ∷ field "sign_threshold" (four 15)
+    ∷ field "dkg_public timeout: whether, nanoseconds" (1 ∷ eight 21)
+    ∷ field "dkg_private timeout" (replicate 9 0)
+    ∷ field "dkg_end timeout" (1 ∷ eight 23)
+    ∷ field "nonce timeout" (1 ∷ eight 24)
+    ∷ field "sign timeout" (1 ∷ eight 25)
     ∷ []
 
 -- ten signers of 77 bytes: id, whether there is a key set, sixteen keys, how many count
 abbrev signers : Flags → List Field
 signers f =
-    field "signer 0, id" 82 (four 31)
-    ∷ field "signer 0, has_keys" 86 (1 ∷ [])
-    ∷ field "signer 0, key 0" 87 (four 32)
-    ∷ field "signer 0, key 1" 91 (four 33)
-    ∷ field "signer 0, keys 2 to 15" 95 (times 14 (four 0))
-    ∷ field "signer 0, count of keys" 151 (eight 34)
-    ∷ field "signer 1, id" 159 (four 35)
-    ∷ field "signer 1, has_keys" 163 (0 ∷ [])
-    ∷ field "signer 1, keys" 164 (four 36 ++ four 37 ++ times 14 (four 0))
-    ∷ field "signer 1, count of keys" 228 (eight 38)
-    ∷ field "signers 2 to 9" 236 (times 8 (four 0 ++ (0 ∷ times 16 (four 0)) ++ eight 0))
-    ∷ field "count of signers" 852 (eight 39)
-    ∷ field "verify_packet_sigs" 860 (flag (f .verify))
+    field "signer 0, id" (four 31)
+    ∷ field "signer 0, has_keys" (1 ∷ [])
+    ∷ field "signer 0, key 0" (four 32)
+    ∷ field "signer 0, key 1" (four 33)
+    ∷ field "signer 0, keys 2 to 15" (times 14 (four 0))
+    ∷ field "signer 0, count of keys" (eight 34)
+    ∷ field "signer 1, id" (four 35)
+    ∷ field "signer 1, has_keys" (0 ∷ [])
+    ∷ field "signer 1, keys" (four 36 ++ four 37 ++ times 14 (four 0))
+    ∷ field "signer 1, count of keys" (eight 38)
+    ∷ field "signers 2 to 9" (times 8 (four 0 ++ (0 ∷ times 16 (four 0)) ++ eight 0))
+    ∷ field "count of signers" (eight 39)
+    ∷ field "verify_packet_sigs" (flag (f .verify))
     ∷ []
 
 abbrev middle : List Field
 middle =
-    field "dkg_id" 861 (eight 41)
-    ∷ field "sign_id" 869 (eight 42)
-    ∷ field "sign_iter_id" 877 (eight 43)
-    ∷ field "state" 885 (14 ∷ [])
-    ∷ field "signature type" 886 (3 ∷ [])
-    ∷ field "root" 887 (44 ∷ replicate 31 45)
-    ∷ field "message" 919 (46 ∷ replicate 255 47)
-    ∷ field "length of the message" 1175 (eight 48)
+    field "dkg_id" (eight 41)
+    ∷ field "sign_id" (eight 42)
+    ∷ field "sign_iter_id" (eight 43)
+    ∷ field "state" (14 ∷ [])
+    ∷ field "signature type" (3 ∷ [])
+    ∷ field "root" (44 ∷ replicate 31 45)
+    ∷ field "message" (46 ∷ replicate 255 47)
+    ∷ field "length of the message" (eight 48)
     ∷ []
 
 -- four records of 428 bytes: the length of the message, and ten slots of 42
 abbrev records : List Field
 records =
-    field "record 0, length of the message" 1183 (eight 51)
-    ∷ field "record 0, slot 0, held" 1191 (1 ∷ [])
-    ∷ field "record 0, slot 0, waits" 1192 (0 ∷ [])
-    ∷ field "record 0, slot 0, dkg_id" 1193 (eight 60)
-    ∷ field "record 0, slot 0, sign_id" 1201 (eight 61)
-    ∷ field "record 0, slot 0, sign_iter_id" 1209 (eight 62)
-    ∷ field "record 0, slot 0, count of key ids" 1217 (eight 63)
-    ∷ field "record 0, slot 0, count of nonces" 1225 (eight 64)
-    ∷ field "record 0, slot 1" 1233 (0 ∷ 1 ∷ (eight 70 ++ eight 71 ++ eight 72 ++ eight 73 ++ eight 74))
-    ∷ field "record 0, slots 2 to 9" 1275 (times 8 noSlot)
-    ∷ field "record 1, length of the message" 1611 (eight 52)
-    ∷ field "record 1, slot 0" 1619 (1 ∷ 1 ∷ (eight 80 ++ eight 81 ++ eight 82 ++ eight 83 ++ eight 84))
-    ∷ field "record 1, slots 1 to 9" 1661 (times 9 noSlot)
-    ∷ field "records 2 and 3" 2039 (times 2 (eight 0 ++ times 10 noSlot))
-    ∷ field "count of records" 2895 (eight 53)
+    field "record 0, length of the message" (eight 51)
+    ∷ field "record 0, slot 0, held" (1 ∷ [])
+    ∷ field "record 0, slot 0, waits" (0 ∷ [])
+    ∷ field "record 0, slot 0, dkg_id" (eight 60)
+    ∷ field "record 0, slot 0, sign_id" (eight 61)
+    ∷ field "record 0, slot 0, sign_iter_id" (eight 62)
+    ∷ field "record 0, slot 0, count of key ids" (eight 63)
+    ∷ field "record 0, slot 0, count of nonces" (eight 64)
+    ∷ field "record 0, slot 1" (0 ∷ 1 ∷ (eight 70 ++ eight 71 ++ eight 72 ++ eight 73 ++ eight 74))
+    ∷ field "record 0, slots 2 to 9" (times 8 noSlot)
+    ∷ field "record 1, length of the message" (eight 52)
+    ∷ field "record 1, slot 0" (1 ∷ 1 ∷ (eight 80 ++ eight 81 ++ eight 82 ++ eight 83 ++ eight 84))
+    ∷ field "record 1, slots 1 to 9" (times 9 noSlot)
+    ∷ field "records 2 and 3" (times 2 (eight 0 ++ times 10 noSlot))
+    ∷ field "count of records" (eight 53)
     ∷ []
 
 -- ten signers' shares of 25 bytes; then the marks, the clocks, the keys, the job
 abbrev tail : Flags → List Field
 tail f =
-    field "shares of signer 0, held" 2903 (1 ∷ [])
-    ∷ field "shares of signer 0, count" 2904 (eight 91)
-    ∷ field "shares of signer 0, key ids of each" 2912 (92 ∷ 93 ∷ replicate 14 2)
-    ∷ field "shares of signer 1" 2928 (0 ∷ (eight 94 ++ (95 ∷ 96 ∷ replicate 14 2)))
-    ∷ field "shares of signers 2 to 9" 2953 (times 8 (0 ∷ (eight 0 ++ (0 ∷ 1 ∷ replicate 14 2))))
-    ∷ field "ended, a byte for each signer" 3153 (1 ∷ 1 ∷ replicate 8 0)
-    ∷ field "malicious, a byte for each signer" 3163 (0 ∷ 1 ∷ replicate 8 1)
-    ∷ field "nonce_start: whether, nanoseconds" 3173 (1 ∷ eight 101)
-    ∷ field "sign_start" 3182 (1 ∷ eight 102)
-    ∷ field "coordinator key held" 3191 (flag (f .coordinator))
-    ∷ field "group key held" 3192 (flag (f .aggregate))
-    ∷ field "job" 3193 (flag (f .job))
-    ∷ field "zeros" 3194 (replicate 6 0)
+    field "shares of signer 0, held" (1 ∷ [])
+    ∷ field "shares of signer 0, count" (eight 91)
+    ∷ field "shares of signer 0, key ids of each" (92 ∷ 93 ∷ replicate 14 2)
+    ∷ field "shares of signer 1" (0 ∷ (eight 94 ++ (95 ∷ 96 ∷ replicate 14 2)))
+    ∷ field "shares of signers 2 to 9" (times 8 (0 ∷ (eight 0 ++ (0 ∷ 1 ∷ replicate 14 2))))
+    ∷ field "ended, a byte for each signer" (1 ∷ 1 ∷ replicate 8 0)
+    ∷ field "malicious, a byte for each signer" (0 ∷ 1 ∷ replicate 8 1)
+    ∷ field "nonce_start: whether, nanoseconds" (1 ∷ eight 101)
+    ∷ field "sign_start" (1 ∷ eight 102)
+    ∷ field "coordinator key held" (flag (f .coordinator))
+    ∷ field "group key held" (flag (f .aggregate))
+    ∷ field "job" (flag (f .job))
+    ∷ field "zeros" (replicate 6 0)
     ∷ []
 
 abbrev pub fields : Flags → List Field
@@ -235,7 +230,7 @@ abbrev stateBytes : State → ℕ → ℕ → StateBytes
 stateBytes s n t = record { state = s; bytes = n ∷ t ∷ [] }
 
 unfoldable pub stateSaved : StateBytes → StateBytes
-stateSaved r = record { state = r .state; bytes = take 2 (savedPosition (record { state = r .state; root = replicate 32 9 })) }
+stateSaved r = record { state = r .state; bytes = take 2 (positionForm .save (record { state = r .state; root = replicate 32 9 })) }
 
 unfoldable pub states : List StateBytes
 states =

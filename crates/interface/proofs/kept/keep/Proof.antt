@@ -4,7 +4,7 @@ use borrow.Author.Needs.{needs}
 use mathlib.Core.Logic.{⊎-elim}
 use mathlib.Core.Path.{_∙_, ap}
 use lib.ListN.{length}
-use Rattle.saving_fields.proofs.Writing.{as-long}
+use Rattle.form.proofs.Writing.{as-long}
 use Rattle.state_bytes.specs.Saved.{saved}
 use Rattle.state_bytes.proofs.AllSaves.{all-saves}
 use Rattle.interface.proofs.kept.keep.Statement.{statement}

@@ -1,7 +1,7 @@
 -- `state_for`: by the number.
 -- Assumes nothing.
 use borrow.Author.Tests.{ne-eqb}
-use Rattle.state_bytes.specs.Loaded.{stateFor}
+use Rattle.state_bytes.specs.Description.{stateFor}
 use Rattle.loading.proofs.states.state_for.Statement.{statement}
 use Rattle.loading.proofs.states.state_for.Tie as tie
 

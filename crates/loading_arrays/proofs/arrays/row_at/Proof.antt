@@ -1,22 +1,20 @@
 -- `row_at`: each field from its place.
 -- Assumes nothing.
 use borrow.Author.Needs.{needs}
-use Rattle.state_bytes.specs.Loaded.{rowAt}
+use Rattle.form.specs.Form.{pieces}
+use Rattle.state_bytes.specs.Description.{rowForm}
 use Rattle.loading_arrays.proofs.arrays.row_at.Statement.{statement}
 use Rattle.loading_arrays.proofs.arrays.row_at.Tie as tie
 
-u64-at-requires : tie.Need-u64-at-requires
-u64-at-requires c κs = search needs
-
-add-slots-at : tie.Need-add-slots-at
-add-slots-at c = search needs
-
-slots-at-requires : tie.Need-slots-at-requires
-slots-at-requires c κs = search needs
-
 returns : tie.Need-returns
-unfolding rowAt
+unfolding pieces rowForm
 returns c = cc
 
 pub row-at-spec : {M : Type 1} → statement M
-row-at-spec = tie.close (tie.spec u64-at-requires add-slots-at slots-at-requires returns)
+row-at-spec =
+    tie.close
+    (tie.spec
+    (λ c κs. search needs)
+    (λ c. search needs)
+    (λ c κs. search needs)
+    returns)

@@ -4,48 +4,29 @@ use Prim.Native.Nat.{_+_}
 use native.Mathlib.Omega.{arith}
 use borrow.Author.Needs.{needs}
 use denote.Ref.{now}
-use Rattle.state_bytes.specs.Loaded.{sharesAt}
-use Rattle.loading_arrays.proofs.Copied.{copied}
+use Rattle.layout.specs.Limits.{listLimit}
+use Rattle.form.specs.Form.{flag, number, pieces}
+use Rattle.state_bytes.specs.Description.{shareForm}
+use Rattle.form.proofs.Reading.{copied}
 use Rattle.loading_arrays.proofs.arrays.share_slot_at.Statement.{statement}
 use Rattle.loading_arrays.proofs.arrays.share_slot_at.Tie as tie
 
-flag-at-requires : tie.Need-flag-at-requires
-flag-at-requires c κs = search needs
-
-add-u64-at : tie.Need-add-u64-at
-add-u64-at c = search needs
-
-u64-at-requires : tie.Need-u64-at-requires
-u64-at-requires c κs = search needs
-
-slice-aggregate-copy : tie.Need-slice-aggregate-copy
-slice-aggregate-copy c = search needs
-
-add-part : tie.Need-add-part
-add-part c = search needs
-
-part-requires : tie.Need-part-requires
-part-requires c κs = search needs
-
-copy-requires : tie.Need-copy-requires
-copy-requires c κs = search needs
-
 returns : tie.Need-returns
-unfolding sharesAt
+unfolding pieces shareForm
 returns c =
     let a = c .before .before .before .before .before .before .before .args in
-    let k = copied (now (a .s)) (a .at + 9) 16 (omega arith) (c .before .before .part .ensures) (c .before .copy .ensures) in
+    let k = copied (now (a .s)) (a .at + (flag .width + number 8 .width)) listLimit (c .before .before .part .ensures) (c .before .copy .ensures) in
     cc
 
 pub share-slot-at-spec : {M : Type 1} → statement M
 share-slot-at-spec =
     tie.close
     (tie.spec
-    flag-at-requires
-    add-u64-at
-    u64-at-requires
-    slice-aggregate-copy
-    add-part
-    part-requires
-    copy-requires
+    (λ c κs. search needs)
+    (λ c. search needs)
+    (λ c κs. search needs)
+    (λ c. search needs)
+    (λ c. search needs)
+    (λ c κs. search needs)
+    (λ c κs. search needs)
     returns)

@@ -5,47 +5,21 @@ use mathlib.Core.Path.{refl}
 use native.Mathlib.Omega.{arith}
 use borrow.Author.Needs.{needs}
 use Rattle.layout.specs.Limits.{signerLimit}
-use Rattle.state_bytes.specs.Places.{shareBytes}
-use Rattle.state_bytes.specs.Loaded.{sharesAt}
-use Rattle.loading_arrays.proofs.Each.{Filled, none-yet, one-more, all-of-it}
+use Rattle.form.specs.Form.{pieces}
+use Rattle.form.proofs.Reading.{EachLoaded, first-loaded, each-loaded, all-loaded}
+use Rattle.state_bytes.specs.Description.{shareForm}
 use Rattle.loading_arrays.proofs.arrays.shares_at.Statement.{statement}
 use Rattle.loading_arrays.proofs.arrays.shares_at.Tie as tie
 
 abbrev Inv-loop : tie.InvT-loop
-Inv-loop s at slots₀ i₀ slots i = Filled sharesAt shareBytes s at signerLimit slots i
+Inv-loop s at slots₀ i₀ slots i = EachLoaded shareForm signerLimit s at slots i
 
 abbrev μ-loop : tie.MeasureT-loop
 μ-loop s at slots₀ i₀ slots i = signerLimit - i
 
-loop-holds : tie.Need-loop-holds Inv-loop μ-loop
-loop-holds c = none-yet refl
-
-mul-share-slot-at : tie.Need-mul-share-slot-at Inv-loop μ-loop
-mul-share-slot-at c = omega arith
-
-add-share-slot-at : tie.Need-add-share-slot-at Inv-loop μ-loop
-add-share-slot-at c = omega arith
-
-share-slot-at-requires : tie.Need-share-slot-at-requires Inv-loop μ-loop
-share-slot-at-requires c κs = search needs
-
-mul-slots : tie.Need-mul-slots Inv-loop μ-loop
-mul-slots c = omega arith
-
-array-set-from-slots : tie.Need-array-set-from-slots Inv-loop μ-loop
-array-set-from-slots c = omega arith
-
-add-i : tie.Need-add-i Inv-loop μ-loop
-add-i c = omega arith
-
-loop-less : tie.Need-loop-less Inv-loop μ-loop
-loop-less c = omega arith
-
 loop-again : tie.Need-loop-again Inv-loop μ-loop
-loop-again c = one-more (c .share-slot-at .result) (omega arith) (c .share-slot-at .ensures) (c .before .before .loop .inv)
-
-returns : tie.Need-returns Inv-loop μ-loop
-returns c = all-of-it (omega arith) (c .before .loop .inv)
+unfolding shareForm pieces
+loop-again c = each-loaded (c .share-slot-at2 .result) (omega arith) refl (c .share-slot-at2 .ensures) (c .before .before .loop .inv)
 
 pub shares-at-spec : {M : Type 1} → statement M
 shares-at-spec =
@@ -53,13 +27,14 @@ shares-at-spec =
     (tie.spec
     Inv-loop
     μ-loop
-    loop-holds
-    mul-share-slot-at
-    add-share-slot-at
-    share-slot-at-requires
-    mul-slots
-    array-set-from-slots
-    add-i
-    loop-less
+    (λ c κs. search needs)
+    (λ c. first-loaded (omega arith) (c .share-slot-at .ensures) refl)
+    (λ c. omega arith)
+    (λ c. omega arith)
+    (λ c κs. search needs)
+    (λ c. omega arith)
+    (λ c. omega (arith, c .before .before .loop .inv .places))
+    (λ c. omega arith)
+    (λ c. omega arith)
     loop-again
-    returns)
+    (λ c. all-loaded (omega arith) (c .before .loop .inv)))

@@ -4,11 +4,15 @@ use Rattle.saving.proofs.states.put_config.Statement.{statement}
 use Rattle.saving.proofs.states.put_config.Tie as tie
 use native.Mathlib.Omega.{arith}
 use borrow.Author.Needs.{needs}
-use Rattle.state_bytes.specs.Saved.{savedConfig}
+use Rattle.wire.specs.Bytes.{joined}
 use Rattle.wire.proofs.Numbers.{length-le}
-use Rattle.state_bytes.proofs.Back.{length-timeouts}
-use Rattle.saving_fields.proofs.Writing.{then, last, written, as-long}
-use Rattle.saving_arrays.proofs.Sizes.{signers-long}
+use Rattle.layout.specs.Limits.{signerLimit}
+use Rattle.form.specs.Form.{pieces}
+use Rattle.form.proofs.Lawful.{each-lawful}
+use Rattle.form.proofs.Writing.{then, last, written, as-long}
+use Rattle.state_bytes.specs.Description.{readingParts, readingForm, timeoutsForm, keyForm, signerForm, configForm}
+use Rattle.state_bytes.proofs.Described.{timeouts-lawful, signer-lawful}
+use Rattle.state_bytes.proofs.AllSaves.{config-fits}
 
 -- The function's entry, seen from after each write: its `pre` has the room, and stands too far back for `omega` to find.
 abbrev from-number4 : tie.After-put-number4 → tie.Start
@@ -97,7 +101,7 @@ put-flag-requires : tie.Need-put-flag-requires
 put-flag-requires c κs = search needs
 
 returns : tie.Need-returns
-unfolding savedConfig
+unfolding joined pieces readingParts readingForm timeoutsForm keyForm signerForm configForm
 returns c =
     let after-put-number6 = c .before .before .before .before .before .before in
     let after-put-signers = after-put-number6 .before .before .before .before in
@@ -108,14 +112,15 @@ returns c =
     let after-put-number2 = after-put-number3 .before .before .before .before .before in
     let after-put-number = after-put-number2 .before .before .before .before .before in
     let start = after-put-number .before .before .before .before .before .before in
+    let f = config-fits (start .args .g) _ (start .good .1 .1 .0) .1 .1 .1 .1 .1 in
     written
     (then (length-le 4 _) (omega arith) (after-put-number .put-number .ensures)
     (then (length-le 4 _) (omega arith) (after-put-number2 .put-number2 .ensures)
     (then (length-le 4 _) (omega arith) (after-put-number3 .put-number3 .ensures)
     (then (length-le 4 _) (omega arith) (after-put-number4 .put-number4 .ensures)
     (then (length-le 4 _) (omega arith) (after-put-number5 .put-number5 .ensures)
-    (then (length-timeouts _) (omega arith) (after-put-timeouts .put-timeouts .ensures)
-    (then (signers-long (start .args .g) _ (start .good .1 .1 .0)) (omega arith)
+    (then (timeouts-lawful .long (start .args .g .timeouts) (f .0)) (omega arith) (after-put-timeouts .put-timeouts .ensures)
+    (then (each-lawful signerLimit signer-lawful .long (start .args .g .signers) (f .1 .0)) (omega arith)
     (after-put-signers .put-signers .ensures)
     (then (length-le 8 _) (omega arith) (after-put-number6 .put-number6 .ensures)
     (last (c .before .before .put-flag .ensures))))))))))

@@ -4,9 +4,11 @@ use Rattle.saving.proofs.states.put_message.Statement.{statement}
 use Rattle.saving.proofs.states.put_message.Tie as tie
 use native.Mathlib.Omega.{arith}
 use borrow.Author.Needs.{needs}
-use Rattle.state_bytes.specs.Saved.{savedMessage}
+use Rattle.wire.specs.Bytes.{joined}
+use Rattle.form.specs.Form.{pieces}
+use Rattle.state_bytes.specs.Description.{messageForm}
 use Rattle.state.proofs.Given.{bytes-256}
-use Rattle.saving_fields.proofs.Writing.{then, last, written}
+use Rattle.form.proofs.Writing.{then, last, written}
 
 slice-aggregate-copy : tie.Need-slice-aggregate-copy
 slice-aggregate-copy c = search needs
@@ -24,7 +26,7 @@ same-length : tie.Need-same-length
 same-length c = search needs
 
 returns : tie.Need-returns
-unfolding savedMessage
+unfolding joined pieces messageForm
 returns c =
     let after-copy = c .before .before .before .before .before .before in
     let start = after-copy .before .before .before .before .before in

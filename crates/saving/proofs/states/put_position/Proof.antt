@@ -5,9 +5,11 @@ use Rattle.saving.proofs.states.put_position.Tie as tie
 use mathlib.Core.Path.{refl, ap, _∙_}
 use native.Mathlib.Omega.{arith}
 use borrow.Author.Needs.{needs}
-use Rattle.state_bytes.specs.Saved.{savedType, savedPosition}
+use Rattle.wire.specs.Bytes.{joined}
+use Rattle.form.specs.Form.{pieces}
+use Rattle.state_bytes.specs.Description.{savedType, stateParts, stateForm, positionForm}
 use Rattle.state_table.proofs.Table.{state-below}
-use Rattle.saving_fields.proofs.Writing.{then, last, written, one-byte}
+use Rattle.form.proofs.Writing.{then, last, written, one-byte}
 
 state-number-requires : tie.Need-state-number-requires
 state-number-requires c κs = search needs
@@ -43,7 +45,7 @@ same-length : tie.Need-same-length
 same-length c = search needs
 
 returns : tie.Need-returns
-unfolding savedPosition
+unfolding joined pieces positionForm stateForm stateParts
 returns c =
     let after-put-number2 = c .before .before .before .before .before .before .before in
     let after-put-number = after-put-number2 .before .before .before .before in

@@ -2,62 +2,35 @@
 -- Assumes nothing.
 use Rattle.saving_arrays.proofs.arrays.put_flags.Statement.{statement}
 use Rattle.saving_arrays.proofs.arrays.put_flags.Tie as tie
-use Prim.Native.Nat.{_≤_, _-_}
-use mathlib.Core.Path.{_≡_, refl}
+use Prim.Native.Nat.{_-_}
 use native.Mathlib.Omega.{arith}
-use lib.ListN.{take}
 use borrow.Author.Needs.{needs}
-use Rattle.wire.specs.Bytes.{put}
-use Rattle.state_bytes.specs.Saved.{savedEach, savedFlag}
-use Rattle.saving_fields.proofs.Writing.{as-long, all-of, each-next, each-done}
+use Rattle.layout.specs.Limits.{signerLimit}
+use Rattle.form.specs.Form.{flag, each, pieces}
+use Rattle.form.proofs.Lawful.{flag-lawful}
+use Rattle.form.proofs.Writing.{as-long, EachWrote, none-wrote, each-wrote, all-wrote}
+use Rattle.state_bytes.proofs.AllSaves.{flags-fit}
 
 abbrev Inv-loop : tie.InvT-loop
-Inv-loop out₀ at flags i₀ out i = (i ≤ 10) × (out ≡ put out₀ at (savedEach savedFlag (take i flags)))
+Inv-loop out₀ at flags i₀ out i = EachWrote flag-lawful signerLimit flags out₀ at out i
 
 abbrev μ-loop : tie.MeasureT-loop
-μ-loop out₀ at flags i₀ out i = 10 - i
+μ-loop out₀ at flags i₀ out i = signerLimit - i
 
-loop-holds : tie.Need-loop-holds Inv-loop μ-loop
-unfolding savedEach put
-loop-holds c = (omega arith, refl)
-
-add-put-flag : tie.Need-add-put-flag Inv-loop μ-loop
-add-put-flag c = search needs
-
-array-read-put-flag : tie.Need-array-read-put-flag Inv-loop μ-loop
-array-read-put-flag c = search needs
-
-put-flag-requires : tie.Need-put-flag-requires Inv-loop μ-loop
-put-flag-requires c κs = search needs
-
-add-i : tie.Need-add-i Inv-loop μ-loop
-add-i c = search needs
-
-loop-less : tie.Need-loop-less Inv-loop μ-loop
-loop-less c = search needs
+fits : (start : tie.Start Inv-loop μ-loop) → (each signerLimit flag) .Fits (start .args .t3)
+fits start =
+    flags-fit signerLimit (start .args .t3) (start .good .1 .1 .0 .1 .0 .1)
 
 loop-again : tie.Need-loop-again Inv-loop μ-loop
+unfolding pieces
 loop-again c =
     let in-loop = c .before .before .before .before in
     let at-loop = in-loop .before in
-    let start = at-loop .before .before in
-    let l = at-loop .loop in
-    let xs = start .args .t3 in
-    let good = start .good .1 .1 .0 .1 in (
-      omega arith,
-      each-next savedFlag 1 _ _ _ _ xs (l .i) 10 (all-of (λ x. refl) xs) (good .0 .1) (in-loop .loop-test .taken)
-          (omega arith) (l .inv .1) (c .before .before .put-flag .ensures),
-    )
-
-same-length : tie.Need-same-length Inv-loop μ-loop
-same-length c = as-long _ _ _ _ (c .before .loop .inv .1)
+    each-wrote flag-lawful _ (fits (at-loop .before .before)) (in-loop .loop-test .taken) (omega arith) (at-loop .loop .inv)
+    (c .before .before .put-flag .ensures)
 
 returns : tie.Need-returns Inv-loop μ-loop
-returns c =
-    let start = c .before .before .before in
-    let l = c .before .loop in
-    each-done savedFlag 1 _ _ (start .args .t3) (l .i) 10 (start .good .1 .1 .0 .1 .0 .1) (c .loop-test .left)
-    (l .inv .1)
+returns c = all-wrote flag-lawful (fits (c .before .before .before)) (c .loop-test .left) (c .before .loop .inv)
 
 pub put-flags-spec : {M : Type 1} → statement M
 put-flags-spec =
@@ -65,12 +38,13 @@ put-flags-spec =
     (tie.spec
     Inv-loop
     μ-loop
-    loop-holds
-    add-put-flag
-    array-read-put-flag
-    put-flag-requires
-    add-i
-    loop-less
+    (λ c. none-wrote flag-lawful)
+    (λ c. search needs)
+    (λ c. search needs)
+    (λ c. search needs)
+    (λ c κs. search needs)
+    (λ c. search needs)
+    (λ c. search needs)
     loop-again
-    same-length
+    (λ c. as-long _ _ _ _ (c .before .loop .inv .written))
     returns)

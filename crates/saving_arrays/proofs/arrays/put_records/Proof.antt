@@ -4,9 +4,14 @@ use Rattle.saving_arrays.proofs.arrays.put_records.Statement.{statement
 use Rattle.saving_arrays.proofs.arrays.put_records.Tie as tie
 use native.Mathlib.Omega.{arith}
 use borrow.Author.Needs.{needs}
-use Rattle.state_bytes.specs.Saved.{savedRecords}
-use Rattle.saving_fields.proofs.Writing.{then, last, written}
-use Rattle.saving_arrays.proofs.Sizes.{rows-long}
+use Rattle.wire.specs.Bytes.{joined}
+use Rattle.layout.specs.Limits.{recordLimit}
+use Rattle.form.specs.Form.{pieces}
+use Rattle.state_bytes.specs.Description.{recordsForm, rowForm, slotForm, idsForm}
+use Rattle.form.proofs.Lawful.{each-lawful}
+use Rattle.form.proofs.Writing.{then, last, written}
+use Rattle.state_bytes.proofs.Described.{row-lawful}
+use Rattle.state_bytes.proofs.AllSaves.{records-fit}
 
 put-rows-requires : tie.Need-put-rows-requires
 put-rows-requires c κs = search needs
@@ -21,12 +26,12 @@ same-length : tie.Need-same-length
 same-length c = search needs
 
 returns : tie.Need-returns
-unfolding savedRecords
+unfolding joined pieces recordsForm rowForm slotForm idsForm
 returns c =
     let after-put-rows = c .before .before .before .before .before .before in
     let start = after-put-rows .before .before .before .before in
     written
-    (then (rows-long (start .args .r) _ (start .good .1 .1 .0)) (omega arith) (after-put-rows .put-rows .ensures)
+    (then (each-lawful recordLimit row-lawful .long (start .args .r .rows) (records-fit (start .args .r) _ (start .good .1 .1 .0) .0)) (omega arith) (after-put-rows .put-rows .ensures)
     (last (c .before .before .put-number .ensures)))
 
 pub put-records-spec : {M : Type 1} → statement M

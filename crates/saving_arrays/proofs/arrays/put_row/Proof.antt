@@ -4,9 +4,11 @@ use Rattle.saving_arrays.proofs.arrays.put_row.Statement.{statement}
 use Rattle.saving_arrays.proofs.arrays.put_row.Tie as tie
 use native.Mathlib.Omega.{arith}
 use borrow.Author.Needs.{needs}
-use Rattle.state_bytes.specs.Saved.{savedRow}
+use Rattle.wire.specs.Bytes.{joined}
+use Rattle.form.specs.Form.{pieces}
+use Rattle.state_bytes.specs.Description.{rowForm}
 use Rattle.wire.proofs.Numbers.{length-le}
-use Rattle.saving_fields.proofs.Writing.{then, last, written}
+use Rattle.form.proofs.Writing.{then, last, written}
 
 put-number-requires : tie.Need-put-number-requires
 put-number-requires c κs = search needs
@@ -21,7 +23,7 @@ same-length : tie.Need-same-length
 same-length c = search needs
 
 returns : tie.Need-returns
-unfolding savedRow
+unfolding joined pieces rowForm
 returns c =
     let after-put-number = c .before .before .before .before .before .before in
     written

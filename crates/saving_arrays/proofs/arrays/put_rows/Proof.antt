@@ -2,73 +2,38 @@
 -- Assumes nothing.
 use Rattle.saving_arrays.proofs.arrays.put_rows.Statement.{statement}
 use Rattle.saving_arrays.proofs.arrays.put_rows.Tie as tie
-use Prim.Native.Nat.{_≤_, _-_}
-use mathlib.Core.Path.{_≡_, refl}
+use Prim.Native.Nat.{_-_}
 use native.Mathlib.Omega.{arith}
-use lib.ListN.{take}
 use borrow.Author.Needs.{needs}
-use Rattle.wire.specs.Bytes.{put}
-use Rattle.state_bytes.specs.Saved.{savedEach, savedRow}
+use Rattle.layout.specs.Limits.{recordLimit}
+use Rattle.form.specs.Form.{each, pieces}
+use Rattle.form.proofs.Writing.{as-long, EachWrote, none-wrote, each-wrote, all-wrote}
 use Rattle.state.proofs.fields.SignRoundInfo as SignRoundInfo-row
-use Rattle.state_bytes.proofs.Back.{length-row}
-use Rattle.state_bytes.proofs.AllSaves.{row-fits}
-use Rattle.saving_fields.proofs.Writing.{as-long, each-next, each-done}
-use Rattle.saving_arrays.proofs.Sizes.{array-given}
+use Rattle.state_bytes.specs.Description.{rowForm, slotForm, idsForm}
+use Rattle.state_bytes.proofs.Described.{row-lawful}
+use Rattle.state_bytes.proofs.AllSaves.{given-fits, row-fits}
 
 abbrev Inv-loop : tie.InvT-loop
-Inv-loop out₀ at rows i₀ out i = (i ≤ 4) × (out ≡ put out₀ at (savedEach savedRow (take i rows)))
+Inv-loop out₀ at rows i₀ out i = EachWrote row-lawful recordLimit rows out₀ at out i
 
 abbrev μ-loop : tie.MeasureT-loop
-μ-loop out₀ at rows i₀ out i = 4 - i
+μ-loop out₀ at rows i₀ out i = recordLimit - i
 
-loop-holds : tie.Need-loop-holds Inv-loop μ-loop
-unfolding savedEach put
-loop-holds c = (omega arith, refl)
-
-mul-row : tie.Need-mul-row Inv-loop μ-loop
-mul-row c = search needs
-
-array-copy-out-row : tie.Need-array-copy-out-row Inv-loop μ-loop
-array-copy-out-row c = search needs
-
-mul-put-row : tie.Need-mul-put-row Inv-loop μ-loop
-mul-put-row c = search needs
-
-add-put-row : tie.Need-add-put-row Inv-loop μ-loop
-add-put-row c = search needs
-
-put-row-requires : tie.Need-put-row-requires Inv-loop μ-loop
-put-row-requires c κs = search needs
-
-add-i : tie.Need-add-i Inv-loop μ-loop
-add-i c = search needs
-
-loop-less : tie.Need-loop-less Inv-loop μ-loop
-loop-less c = search needs
+fits : (start : tie.Start Inv-loop μ-loop) → (each recordLimit rowForm) .Fits (start .args .t3)
+fits start =
+    let good = start .good .1 .1 .0 .1 in
+    given-fits rowForm recordLimit (SignRoundInfo-row.the-row .own) row-fits (start .args .t3) _ (good .0 .1) (good .1)
 
 loop-again : tie.Need-loop-again Inv-loop μ-loop
+unfolding rowForm slotForm idsForm pieces
 loop-again c =
     let in-loop = c .before .before .before .before .before in
     let at-loop = in-loop .before in
-    let start = at-loop .before .before in
-    let l = at-loop .loop in
-    let xs = start .args .t3 in
-    let good = start .good .1 .1 .0 .1 in (
-      omega arith,
-      each-next savedRow 428 _ _ _ _ xs (l .i) 4
-          (array-given (SignRoundInfo-row.the-row .own) (λ x vs g. length-row x (row-fits x vs g)) xs _ (good .1))
-          (good .0 .1) (in-loop .loop-test .taken) (omega arith) (l .inv .1) (c .before .before .put-row .ensures),
-    )
-
-same-length : tie.Need-same-length Inv-loop μ-loop
-same-length c = as-long _ _ _ _ (c .before .loop .inv .1)
+    each-wrote row-lawful _ (fits (at-loop .before .before)) (in-loop .loop-test .taken) (omega arith) (at-loop .loop .inv)
+    (c .before .before .put-row .ensures)
 
 returns : tie.Need-returns Inv-loop μ-loop
-returns c =
-    let start = c .before .before .before in
-    let l = c .before .loop in
-    each-done savedRow 428 _ _ (start .args .t3) (l .i) 4 (start .good .1 .1 .0 .1 .0 .1) (c .loop-test .left)
-    (l .inv .1)
+returns c = all-wrote row-lawful (fits (c .before .before .before)) (c .loop-test .left) (c .before .loop .inv)
 
 pub put-rows-spec : {M : Type 1} → statement M
 put-rows-spec =
@@ -76,14 +41,14 @@ put-rows-spec =
     (tie.spec
     Inv-loop
     μ-loop
-    loop-holds
-    mul-row
-    array-copy-out-row
-    mul-put-row
-    add-put-row
-    put-row-requires
-    add-i
-    loop-less
+    (λ c. none-wrote row-lawful)
+    (λ c. search needs)
+    (λ c. search needs)
+    (λ c. search needs)
+    (λ c. search needs)
+    (λ c κs. search needs)
+    (λ c. search needs)
+    (λ c. search needs)
     loop-again
-    same-length
+    (λ c. as-long _ _ _ _ (c .before .loop .inv .written))
     returns)

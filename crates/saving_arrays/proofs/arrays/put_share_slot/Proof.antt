@@ -5,9 +5,11 @@ use Rattle.saving_arrays.proofs.arrays.put_share_slot.Tie as tie
 use mathlib.Core.Path.{refl}
 use native.Mathlib.Omega.{arith}
 use borrow.Author.Needs.{needs}
+use Rattle.wire.specs.Bytes.{joined}
 use Rattle.wire.proofs.Numbers.{length-le}
-use Rattle.state_bytes.specs.Saved.{savedShares}
-use Rattle.saving_fields.proofs.Writing.{then, last, written}
+use Rattle.form.specs.Form.{pieces}
+use Rattle.state_bytes.specs.Description.{shareForm}
+use Rattle.form.proofs.Writing.{then, last, written}
 
 put-flag-requires : tie.Need-put-flag-requires
 put-flag-requires c κs = search needs
@@ -31,7 +33,7 @@ same-length : tie.Need-same-length
 same-length c = search needs
 
 returns : tie.Need-returns
-unfolding savedShares
+unfolding joined pieces shareForm
 returns c =
     let after-put-number = c .before .before .before .before .before .before .before in
     let after-put-flag = after-put-number .before .before .before .before in

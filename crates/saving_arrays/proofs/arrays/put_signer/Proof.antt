@@ -5,10 +5,15 @@ use Rattle.saving_arrays.proofs.arrays.put_signer.Tie as tie
 use mathlib.Core.Path.{refl}
 use native.Mathlib.Omega.{arith}
 use borrow.Author.Needs.{needs}
+use Rattle.wire.specs.Bytes.{joined}
 use Rattle.wire.proofs.Numbers.{length-le}
-use Rattle.state_bytes.specs.Saved.{savedSigner}
-use Rattle.saving_fields.proofs.Writing.{then, last, written}
-use Rattle.saving_arrays.proofs.Sizes.{key-ids-long}
+use Rattle.layout.specs.Limits.{listLimit}
+use Rattle.form.specs.Form.{pieces}
+use Rattle.state_bytes.specs.Description.{signerForm, keyForm}
+use Rattle.form.proofs.Lawful.{each-lawful}
+use Rattle.form.proofs.Writing.{then, last, written}
+use Rattle.state_bytes.proofs.Described.{key-lawful}
+use Rattle.state_bytes.proofs.AllSaves.{signer-fits}
 
 cast-put-number : tie.Need-cast-put-number
 cast-put-number c = search needs
@@ -38,7 +43,7 @@ same-length : tie.Need-same-length
 same-length c = search needs
 
 returns : tie.Need-returns
-unfolding savedSigner
+unfolding joined pieces signerForm keyForm
 returns c =
     let after-put-key-ids = c .before .before .before .before .before .before in
     let after-put-flag = after-put-key-ids .before .before .before .before in
@@ -47,7 +52,7 @@ returns c =
     written
     (then (length-le 4 _) (omega arith) (after-put-number .put-number .ensures)
     (then refl (omega arith) (after-put-flag .put-flag .ensures)
-    (then (key-ids-long (start .args .e) _ (start .good .1 .1 .0)) (omega arith)
+    (then (each-lawful listLimit key-lawful .long (start .args .e .keys .ids) (signer-fits (start .args .e) _ (start .good .1 .1 .0) .1 .1 .0)) (omega arith)
     (after-put-key-ids .put-key-ids .ensures) (last (c .before .before .put-number2 .ensures)))))
 
 pub put-signer-spec : {M : Type 1} → statement M

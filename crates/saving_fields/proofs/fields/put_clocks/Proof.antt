@@ -4,9 +4,11 @@ use Rattle.saving_fields.proofs.fields.put_clocks.Statement.{statement}
 use Rattle.saving_fields.proofs.fields.put_clocks.Tie as tie
 use native.Mathlib.Omega.{arith}
 use borrow.Author.Needs.{needs}
-use Rattle.state_bytes.specs.Saved.{savedClocks}
-use Rattle.state_bytes.proofs.Back.{length-reading}
-use Rattle.saving_fields.proofs.Writing.{then, last, written}
+use Rattle.wire.specs.Bytes.{joined}
+use Rattle.form.specs.Form.{pieces}
+use Rattle.state_bytes.specs.Description.{clocksForm, readingForm, readingParts}
+use Rattle.state_bytes.proofs.Described.{reading-long}
+use Rattle.form.proofs.Writing.{then, last, written}
 
 put-reading-requires : tie.Need-put-reading-requires
 put-reading-requires c κs = search needs
@@ -21,11 +23,12 @@ same-length : tie.Need-same-length
 same-length c = search needs
 
 returns : tie.Need-returns
-unfolding savedClocks
+unfolding joined pieces clocksForm readingForm readingParts
 returns c =
     let after-put-reading = c .before .before .before .before .before .before in
+    let clocks = after-put-reading .before .before .before .args .c in
     written
-    (then (length-reading _) (omega arith) (after-put-reading .put-reading .ensures)
+    (then (reading-long (clocks .«nonce_start»)) (omega arith) (after-put-reading .put-reading .ensures)
     (last (c .before .before .put-reading2 .ensures)))
 
 pub put-clocks-spec : {M : Type 1} → statement M

@@ -4,9 +4,11 @@ use Rattle.saving_fields.proofs.fields.put_ids.Statement.{statement}
 use Rattle.saving_fields.proofs.fields.put_ids.Tie as tie
 use native.Mathlib.Omega.{arith}
 use borrow.Author.Needs.{needs}
+use Rattle.wire.specs.Bytes.{joined}
 use Rattle.wire.proofs.Numbers.{length-le}
-use Rattle.state_bytes.specs.Saved.{savedIds}
-use Rattle.saving_fields.proofs.Writing.{then, last, written}
+use Rattle.form.specs.Form.{pieces}
+use Rattle.state_bytes.specs.Description.{idsForm}
+use Rattle.form.proofs.Writing.{then, last, written}
 
 put-number-requires : tie.Need-put-number-requires
 put-number-requires c κs = search needs
@@ -27,7 +29,7 @@ same-length : tie.Need-same-length
 same-length c = search needs
 
 returns : tie.Need-returns
-unfolding savedIds
+unfolding joined pieces idsForm
 returns c =
     let after-put-number2 = c .before .before .before .before .before .before in
     let after-put-number = after-put-number2 .before .before .before .before in

@@ -5,8 +5,10 @@ use Rattle.saving_fields.proofs.fields.put_keys.Tie as tie
 use mathlib.Core.Path.{refl}
 use native.Mathlib.Omega.{arith}
 use borrow.Author.Needs.{needs}
-use Rattle.state_bytes.specs.Saved.{savedKeys}
-use Rattle.saving_fields.proofs.Writing.{then, last, written}
+use Rattle.wire.specs.Bytes.{joined}
+use Rattle.form.specs.Form.{pieces}
+use Rattle.state_bytes.specs.Description.{keysForm}
+use Rattle.form.proofs.Writing.{then, last, written}
 
 put-flag-requires : tie.Need-put-flag-requires
 put-flag-requires c κs = search needs
@@ -21,7 +23,7 @@ same-length : tie.Need-same-length
 same-length c = search needs
 
 returns : tie.Need-returns
-unfolding savedKeys
+unfolding joined pieces keysForm
 returns c =
     let after-put-flag = c .before .before .before .before .before .before in
     written

@@ -5,9 +5,10 @@ use Rattle.saving_fields.proofs.fields.put_reading.Tie as tie
 use mathlib.Core.Path.{refl}
 use native.Mathlib.Omega.{arith}
 use borrow.Author.Needs.{needs}
-use Rattle.wire.specs.Bytes.{le}
-use Rattle.state_bytes.specs.Saved.{savedReading}
-use Rattle.saving_fields.proofs.Writing.{then, last, written}
+use Rattle.wire.specs.Bytes.{le, joined}
+use Rattle.form.specs.Form.{pieces}
+use Rattle.state_bytes.specs.Description.{readingForm, readingParts}
+use Rattle.form.proofs.Writing.{then, last, written}
 
 enum-told : tie.Need-enum-told
 enum-told c = search needs
@@ -37,7 +38,7 @@ same-length : tie.Need-same-length
 same-length c = search needs
 
 returns : tie.Need-returns
-unfolding le savedReading
+unfolding joined le pieces readingForm readingParts
 returns c =
     let after-put-number = c .before .before .before .before .before .before in
     let after-enum-told = after-put-number .before .before in
@@ -50,7 +51,7 @@ same-length-2 : tie.Need-same-length-2
 same-length-2 c = search needs
 
 returns-2 : tie.Need-returns-2
-unfolding le savedReading
+unfolding joined le pieces readingForm readingParts
 returns-2 c =
     let after-put-number3 = c .before .before .before .before .before .before in
     let after-r = after-put-number3 .before .before .before in

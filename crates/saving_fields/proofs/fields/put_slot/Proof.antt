@@ -5,10 +5,12 @@ use Rattle.saving_fields.proofs.fields.put_slot.Tie as tie
 use mathlib.Core.Path.{refl}
 use native.Mathlib.Omega.{arith}
 use borrow.Author.Needs.{needs}
+use Rattle.wire.specs.Bytes.{joined}
 use Rattle.wire.proofs.Numbers.{length-le}
-use Rattle.state_bytes.specs.Saved.{savedSlot}
-use Rattle.state_bytes.proofs.Back.{length-ids}
-use Rattle.saving_fields.proofs.Writing.{then, last, written}
+use Rattle.form.specs.Form.{pieces}
+use Rattle.state_bytes.specs.Description.{slotForm, idsForm}
+use Rattle.state_bytes.proofs.Described.{ids-long}
+use Rattle.form.proofs.Writing.{then, last, written}
 
 put-flag-requires : tie.Need-put-flag-requires
 put-flag-requires c κs = search needs
@@ -41,7 +43,7 @@ same-length : tie.Need-same-length
 same-length c = search needs
 
 returns : tie.Need-returns
-unfolding savedSlot
+unfolding joined pieces slotForm idsForm
 returns c =
     let after-put-number = c .before .before .before .before .before .before in
     let after-put-ids = after-put-number .before .before .before .before in
@@ -50,7 +52,7 @@ returns c =
     written
     (then refl (omega arith) (after-put-flag .put-flag .ensures)
     (then refl (omega arith) (after-put-flag2 .put-flag2 .ensures)
-    (then (length-ids _) (omega arith) (after-put-ids .put-ids .ensures)
+    (then (ids-long _) (omega arith) (after-put-ids .put-ids .ensures)
     (then (length-le 8 _) (omega arith) (after-put-number .put-number .ensures)
     (last (c .before .before .put-number2 .ensures))))))
 

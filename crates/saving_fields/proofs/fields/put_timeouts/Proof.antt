@@ -4,9 +4,11 @@ use Rattle.saving_fields.proofs.fields.put_timeouts.Statement.{statemen
 use Rattle.saving_fields.proofs.fields.put_timeouts.Tie as tie
 use native.Mathlib.Omega.{arith}
 use borrow.Author.Needs.{needs}
-use Rattle.state_bytes.specs.Saved.{savedTimeouts}
-use Rattle.state_bytes.proofs.Back.{length-reading}
-use Rattle.saving_fields.proofs.Writing.{then, last, written}
+use Rattle.wire.specs.Bytes.{joined}
+use Rattle.form.specs.Form.{pieces}
+use Rattle.state_bytes.specs.Description.{timeoutsForm, readingForm, readingParts}
+use Rattle.state_bytes.proofs.Described.{reading-long}
+use Rattle.form.proofs.Writing.{then, last, written}
 
 put-reading-requires : tie.Need-put-reading-requires
 put-reading-requires c κs = search needs
@@ -39,17 +41,18 @@ same-length : tie.Need-same-length
 same-length c = search needs
 
 returns : tie.Need-returns
-unfolding savedTimeouts
+unfolding joined pieces timeoutsForm readingForm readingParts
 returns c =
     let after-put-reading4 = c .before .before .before .before .before .before in
     let after-put-reading3 = after-put-reading4 .before .before .before .before in
     let after-put-reading2 = after-put-reading3 .before .before .before .before in
     let after-put-reading = after-put-reading2 .before .before .before .before in
+    let timeouts = after-put-reading .before .before .before .args .t in
     written
-    (then (length-reading _) (omega arith) (after-put-reading .put-reading .ensures)
-    (then (length-reading _) (omega arith) (after-put-reading2 .put-reading2 .ensures)
-    (then (length-reading _) (omega arith) (after-put-reading3 .put-reading3 .ensures)
-    (then (length-reading _) (omega arith) (after-put-reading4 .put-reading4 .ensures)
+    (then (reading-long (timeouts .«dkg_public»)) (omega arith) (after-put-reading .put-reading .ensures)
+    (then (reading-long (timeouts .«dkg_private»)) (omega arith) (after-put-reading2 .put-reading2 .ensures)
+    (then (reading-long (timeouts .«dkg_end»)) (omega arith) (after-put-reading3 .put-reading3 .ensures)
+    (then (reading-long (timeouts .nonce)) (omega arith) (after-put-reading4 .put-reading4 .ensures)
     (last (c .before .before .put-reading5 .ensures))))))
 
 pub put-timeouts-spec : {M : Type 1} → statement M

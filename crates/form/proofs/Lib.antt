@@ -1,0 +1,6 @@
+-- The laws of forms.
+pub mod Standing
+pub mod Lawful
+pub mod Writing
+pub mod Reading
+pub mod Updates

@@ -1,0 +1,2 @@
+-- Values as bytes, described.
+pub mod Form
