@@ -17,6 +17,10 @@ fn main() {
     println!("cargo:rustc-link-search=native={}", folder.display());
     println!("cargo:rustc-link-lib=static=roundcabinet");
 
+    // places.rs includes it.
+    let places = here.join("../../crates/state_bytes/src/lib.rt");
+    println!("cargo:rerun-if-changed={}", places.display());
+
     let source = here.join("src/layout.c");
     let header = base.join("../include");
     println!("cargo:rerun-if-changed={}", source.display());

@@ -12,7 +12,7 @@ use crate::{
     same,
     signature_type::SigType,
     states::IDLE,
-    view::{View, CONFIG, CONFIG_END},
+    view::{View, CONFIG},
 };
 
 /// What differs, in words.
@@ -221,7 +221,7 @@ impl Both {
             if let Some(name) = same::configuration(&self.view(), commission) {
                 return differ(name);
             }
-        } else if self.library.state.bytes()[CONFIG..CONFIG_END] != self.state[CONFIG..CONFIG_END] {
+        } else if self.library.state.bytes()[CONFIG] != self.state[CONFIG] {
             return differ("bytes of the configuration");
         }
         if !self.view().is_saved_form() {

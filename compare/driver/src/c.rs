@@ -1,7 +1,7 @@
 //! include/roundcabinet.h as Rust sees it. layout.c says what the C compiler makes of the header,
 //! and a test holds the two together.
 
-pub const STATE_LENGTH: usize = 3200;
+pub use crate::places::STATE_LENGTH;
 pub const STORE_LENGTH: usize = 52224;
 pub const ANSWER_LENGTH: usize = 19232;
 pub const SIGNER_PLACES: usize = 11;

@@ -4,8 +4,9 @@
 use crate::{
     c,
     library::Library,
+    places::{layout::SIGNER_LIMIT, CLOCKS_START, IDS_START, NANOSECONDS, SIGN_ID, ZEROS_START},
     states::NONCE_GATHER,
-    view::{places, View},
+    view::{self, View},
 };
 
 #[derive(Clone, Copy, Debug, PartialEq, Eq)]
@@ -62,13 +63,13 @@ impl Fault {
     fn put_in_state(self, given: &c::Answer, library: &mut Library) {
         let kind = if given.class == c::PACKET { library.out.bytes()[0] } else { 0 };
         let v = View { state: library.state.bytes(), store: library.store.bytes() };
-        let slots = || 0..v.signer_count().min(10);
+        let slots = || 0..v.signer_count().min(SIGNER_LIMIT);
         let place = match self.0 {
-            2 if kind == 1 => slots().find(|i| v.malicious(*i)).map(places::malicious),
-            3 if v.state_number() == NONCE_GATHER => Some(places::NONCE_START),
-            5 if kind == 3 => slots().find(|i| v.waits(0, *i)).map(|i| places::waits(0, i)),
-            9 => Some(places::PADDING),
-            11 if given.number == 11 => Some(places::SIGN_ID),
+            2 if kind == 1 => slots().find(|i| v.malicious(*i)).map(view::malicious_at),
+            3 if v.state_number() == NONCE_GATHER => Some(CLOCKS_START + NANOSECONDS),
+            5 if kind == 3 => slots().find(|i| v.waits(0, *i)).map(|i| view::waits_at(0, i)),
+            9 => Some(ZEROS_START),
+            11 if given.number == 11 => Some(IDS_START + SIGN_ID),
             _ => None,
         };
         if let Some(place) = place {
@@ -78,14 +79,14 @@ impl Fault {
 
     fn put_in_store(self, library: &mut Library) {
         let v = View { state: library.state.bytes(), store: library.store.bytes() };
-        let mut slots = 0..v.signer_count().min(10);
+        let mut slots = 0..v.signer_count().min(SIGNER_LIMIT);
         let place = if self.0 == 6 && v.record_count() > 0 {
             let with_nonces =
                 |i: &usize| v.responded(0, *i) && !v.response(0, *i).nonces.is_empty();
-            slots.find(with_nonces).map(|i| places::stored_nonces(0, i))
+            slots.find(with_nonces).map(|i| view::stored_nonces_at(0, i))
         } else if self.0 == 10 {
             let with_shares = |i: &usize| v.has_shares(*i) && v.shares(*i).count() > 0;
-            slots.find(with_shares).map(places::stored_shares)
+            slots.find(with_shares).map(view::stored_shares_at)
         } else {
             None
         };

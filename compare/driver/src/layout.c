@@ -2,6 +2,10 @@
 #include "roundcabinet.h"
 
 const size_t rc_layout[] = {
+    RC_STATE_VERSION,
+    RC_MESSAGE_LIMIT,
+    RC_KEY_LIMIT,
+    RC_SIGNER_LIMIT,
     RC_STATE_LENGTH,
     RC_STORE_LENGTH,
     RC_ANSWER_LENGTH,

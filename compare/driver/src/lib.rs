@@ -24,6 +24,7 @@ pub mod library_fields;
 pub mod mark;
 pub mod packet;
 pub mod parse;
+pub mod places;
 pub mod probes;
 pub mod reached;
 pub mod responses;

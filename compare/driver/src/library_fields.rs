@@ -3,6 +3,7 @@
 use crate::{
     fields::{Fields, Record, Response, Share},
     packet::u32_at,
+    places::layout::{RECORD_LIMIT, SIGNER_LIMIT},
     view::View,
 };
 
@@ -24,7 +25,7 @@ fn response(v: &View, row: usize, slot: usize) -> Response {
 
 /// The slots ascending by signer id.
 fn slots(v: &View) -> Vec<usize> {
-    let mut slots: Vec<usize> = (0..v.signer_count().min(10)).collect();
+    let mut slots: Vec<usize> = (0..v.signer_count().min(SIGNER_LIMIT)).collect();
     slots.sort_by_key(|i| v.signer_id(*i));
     slots
 }
@@ -55,7 +56,7 @@ fn shares(v: &View, slot: usize) -> Vec<Share> {
 
 pub fn fields(v: &View) -> Fields {
     let slots = slots(v);
-    let rows = 0..v.record_count().min(4);
+    let rows = 0..v.record_count().min(RECORD_LIMIT);
     let flagged = |f: &dyn Fn(usize) -> bool| {
         slots.iter().filter(|i| f(**i)).map(|i| v.signer_id(*i)).collect::<Vec<u32>>()
     };

@@ -5,6 +5,10 @@ use crate::{
     calls::{Call, Step},
     library::{self, Library},
     packet,
+    places::{
+        COMMISSIONED_START, CONFIG_START, KEYS_START, STATE_LENGTH, VERIFY_PACKET_SIGS,
+        VERSION_START,
+    },
     signature_type::SigType,
 };
 
@@ -93,7 +97,16 @@ fn refused(probe: Probe, number: u32, given: c::Answer) -> Result<(), String> {
 
 /// Spoils a byte of mark, version, a flag or the zeros at the end, and mends it again.
 fn foreign_state(step: &Step, library: &mut Library) -> Result<(), String> {
-    const PLACES: [usize; 8] = [0, 7, 8, 15, 16, 860, 3191, 3199];
+    const PLACES: [usize; 8] = [
+        0,
+        VERSION_START - 1,
+        VERSION_START,
+        COMMISSIONED_START - 1,
+        COMMISSIONED_START,
+        CONFIG_START + VERIFY_PACKET_SIGS,
+        KEYS_START,
+        STATE_LENGTH - 1,
+    ];
     let place = PLACES[step.now as usize % PLACES.len()];
     let good = library.state.bytes()[place];
     let spoilt = good ^ 0x42;

@@ -148,11 +148,11 @@ pub fn fields(v: &View, s: &SavedState) -> Named {
 /// The configuration: signers in the order given, each key set ascending.
 pub fn configuration(v: &View, c: &Commission) -> Named {
     let numbers = [c.num_signers, c.num_keys, c.threshold, c.dkg_threshold, c.sign_threshold];
-    if (0..5).any(|i| v.config_number(i) != numbers[i]) {
+    if v.config_numbers() != numbers {
         return Some("a number of the configuration");
     }
     let timeouts = [None, None, None, c.nonce_timeout, c.sign_timeout];
-    if (0..5).any(|i| v.timeout(i) != timeouts[i]) {
+    if v.timeouts() != timeouts {
         return Some("a timeout of the configuration");
     }
     let mut wanted = c.signers.clone();

@@ -1,32 +1,16 @@
-//! What stands where in the library's state and store. The places are those of
-//! crates/state_bytes/specs (Places, Saved) and crates/state/specs/View.antt.
+//! What stands in the library's state and store. The places in the state are those of places.rs,
+//! the store's those of crates/state/specs/View.antt.
+
+use std::ops::Range;
 
 use crate::{
     packet::{u32_at, u64_at},
+    places::{layout::*, *},
     signature_type::SigType,
 };
 
-// In the state.
-const COMMISSIONED: usize = 16;
-pub const CONFIG: usize = 17;
-const CONFIG_SIGNERS: usize = CONFIG + 65;
-const CONFIG_COUNT: usize = CONFIG + 835;
-pub const CONFIG_END: usize = CONFIG + 844;
-const SIGNER_BYTES: usize = 77;
-const IDS: usize = 861;
-pub const POSITION: usize = 885;
-const MESSAGE: usize = 919;
-const RECORDS: usize = 1183;
-const RECORDS_COUNT: usize = RECORDS + 1712;
-const ROW_BYTES: usize = 428;
-const SLOT_BYTES: usize = 42;
-const SHARES: usize = 2903;
-const SHARE_BYTES: usize = 25;
-const MARKS: usize = 3153;
-const CLOCKS: usize = 3173;
-const KEYS: usize = 3191;
-const JOB: usize = 3193;
-const END: usize = 3194;
+/// The configuration, in the state.
+pub const CONFIG: Range<usize> = CONFIG_START..CONFIG_START + CONFIG_BYTES;
 
 // In the store.
 const STORED_RECORD: usize = 11456;
@@ -70,106 +54,103 @@ impl<'a> View<'a> {
     }
 
     fn reading(&self, at: usize) -> Option<u64> {
-        self.flag(at).then(|| u64_at(self.state, at + 1))
+        self.flag(at).then(|| u64_at(self.state, at + NANOSECONDS))
     }
 
     pub fn commissioned(&self) -> bool {
-        self.flag(COMMISSIONED)
+        self.flag(COMMISSIONED_START)
     }
 
     // ---- configuration ----
 
     /// num_signers, num_keys, threshold, dkg_threshold, sign_threshold.
-    pub fn config_number(&self, i: usize) -> u32 {
-        u32_at(self.state, CONFIG + 4 * i)
+    pub fn config_numbers(&self) -> [u32; 5] {
+        let places = [0, NUM_KEYS, THRESHOLD, DKG_THRESHOLD, SIGN_THRESHOLD];
+        places.map(|at| u32_at(self.state, CONFIG_START + at))
     }
 
     /// The timeouts: public, private and end of key generation, nonce, sign.
-    pub fn timeout(&self, i: usize) -> Option<u64> {
-        self.reading(CONFIG + 20 + 9 * i)
+    pub fn timeouts(&self) -> [Option<u64>; TIMEOUT_COUNT] {
+        timeout_places().map(|at| self.reading(at))
     }
 
     pub fn signer_count(&self) -> usize {
-        self.number(CONFIG_COUNT)
+        self.number(CONFIG_START + SIGNER_COUNT)
     }
 
     pub fn verify_packet_sigs(&self) -> bool {
-        self.flag(CONFIG_END - 1)
+        self.flag(CONFIG_START + VERIFY_PACKET_SIGS)
     }
 
     pub fn signer_id(&self, slot: usize) -> u32 {
-        u32_at(self.state, CONFIG_SIGNERS + SIGNER_BYTES * slot)
+        u32_at(self.state, signer_at(slot))
     }
 
     /// The key set of a signer, if it has one.
     pub fn signer_keys(&self, slot: usize) -> Option<Vec<u32>> {
-        let at = CONFIG_SIGNERS + SIGNER_BYTES * slot;
-        let count = self.number(at + 69);
-        let keys = || (0..count).map(|k| u32_at(self.state, at + 5 + 4 * k)).collect();
-        self.flag(at + 4).then(keys)
+        let at = signer_at(slot);
+        let count = self.number(at + KEY_COUNT);
+        let key = |k| u32_at(self.state, at + KEY_IDS + KEY_BYTES * k);
+        self.flag(at + HAS_KEYS).then(|| (0..count).map(key).collect())
     }
 
     // ---- ids, state, message ----
 
     pub fn dkg_id(&self) -> u64 {
-        u64_at(self.state, IDS)
+        u64_at(self.state, IDS_START)
     }
 
     pub fn sign_id(&self) -> u64 {
-        u64_at(self.state, IDS + 8)
+        u64_at(self.state, IDS_START + SIGN_ID)
     }
 
     pub fn sign_iter_id(&self) -> u64 {
-        u64_at(self.state, IDS + 16)
+        u64_at(self.state, IDS_START + SIGN_ITER_ID)
     }
 
     pub fn state_number(&self) -> u8 {
-        self.state[POSITION]
+        self.state[POSITION_START]
     }
 
     /// The root counts for type 3 alone.
     pub fn signature_type(&self) -> SigType {
-        let root = self.state[POSITION + 2..POSITION + 34].try_into().unwrap();
-        SigType::new(self.state[POSITION + 1] & 3, root)
+        let root = self.state[POSITION_START + ROOT..][..ROOT_LENGTH].try_into().unwrap();
+        SigType::new(self.state[POSITION_START + SIGNATURE_TYPE] & 3, root)
     }
 
     pub fn message(&self) -> &'a [u8] {
-        let length = self.number(MESSAGE + 256).min(256);
-        &self.state[MESSAGE..MESSAGE + length]
+        let length = self.number(MESSAGE_START + MESSAGE_LEN).min(MESSAGE_LIMIT);
+        &self.state[MESSAGE_START..][..length]
     }
 
     // ---- records ----
 
     pub fn record_count(&self) -> usize {
-        self.number(RECORDS_COUNT)
+        self.number(RECORDS_START + ROW_COUNT)
     }
 
     pub fn record_message(&self, row: usize) -> &'a [u8] {
-        let length = self.number(RECORDS + ROW_BYTES * row).min(256);
+        let length = self.number(row_at(row)).min(MESSAGE_LIMIT);
         &self.store[STORED_RECORD * row..][..length]
     }
 
-    fn slot_at(row: usize, slot: usize) -> usize {
-        RECORDS + ROW_BYTES * row + 8 + SLOT_BYTES * slot
-    }
-
     pub fn responded(&self, row: usize, slot: usize) -> bool {
-        self.flag(Self::slot_at(row, slot))
+        self.flag(slot_at(row, slot))
     }
 
     pub fn waits(&self, row: usize, slot: usize) -> bool {
-        self.responded(row, slot) && self.flag(Self::slot_at(row, slot) + 1)
+        self.responded(row, slot) && self.flag(waits_at(row, slot))
     }
 
     pub fn response(&self, row: usize, slot: usize) -> ResponseView<'a> {
-        let at = Self::slot_at(row, slot);
-        let key_ids = self.number(at + 26).min(16);
-        let nonces = self.number(at + 34).min(16);
+        let at = slot_at(row, slot);
+        let key_ids = self.number(at + SLOT_KEY_IDS).min(LIST_LIMIT);
+        let nonces = self.number(at + SLOT_NONCES).min(LIST_LIMIT);
         let from = STORED_RECORD * row + STORED_MESSAGE + STORED_RESPONSE * slot;
         ResponseView {
-            dkg_id: u64_at(self.state, at + 2),
-            sign_id: u64_at(self.state, at + 10),
-            sign_iter_id: u64_at(self.state, at + 18),
+            dkg_id: u64_at(self.state, at + SLOT_IDS),
+            sign_id: u64_at(self.state, at + SLOT_IDS + SIGN_ID),
+            sign_iter_id: u64_at(self.state, at + SLOT_IDS + SIGN_ITER_ID),
             key_ids: &self.store[from..][..4 * key_ids],
             nonces: &self.store[from + STORED_KEYS..][..66 * nonces],
         }
@@ -178,13 +159,13 @@ impl<'a> View<'a> {
     // ---- shares ----
 
     pub fn has_shares(&self, slot: usize) -> bool {
-        self.flag(SHARES + SHARE_BYTES * slot)
+        self.flag(shares_at(slot))
     }
 
     pub fn shares(&self, slot: usize) -> impl Iterator<Item = ShareView<'a>> {
-        let at = SHARES + SHARE_BYTES * slot;
-        let count = self.number(at + 1).min(16);
-        let counts = &self.state[at + 9..at + 9 + count];
+        let at = shares_at(slot);
+        let count = self.number(at + SHARE_COUNT).min(LIST_LIMIT);
+        let counts = &self.state[at + KEY_COUNTS..][..count];
         let list = &self.store[STORED_SHARES + STORED_SHARE_LIST * slot..][..STORED_SHARE_LIST];
         let mut keys_at = STORED_SHARE_KEYS;
         counts.iter().enumerate().map(move |(i, keys)| {
@@ -199,31 +180,31 @@ impl<'a> View<'a> {
     // ---- marks, clocks, keys, job ----
 
     pub fn ended(&self, slot: usize) -> bool {
-        self.flag(MARKS + slot)
+        self.flag(MARKS_START + slot)
     }
 
     pub fn malicious(&self, slot: usize) -> bool {
-        self.flag(MARKS + 10 + slot)
+        self.flag(malicious_at(slot))
     }
 
     pub fn nonce_start(&self) -> Option<u64> {
-        self.reading(CLOCKS)
+        self.reading(CLOCKS_START)
     }
 
     pub fn sign_start(&self) -> Option<u64> {
-        self.reading(CLOCKS + 9)
+        self.reading(CLOCKS_START + SIGN_START)
     }
 
     pub fn coordinator_key(&self) -> bool {
-        self.flag(KEYS)
+        self.flag(KEYS_START)
     }
 
     pub fn group_key(&self) -> bool {
-        self.flag(KEYS + 1)
+        self.flag(KEYS_START + AGGREGATE)
     }
 
     pub fn job(&self) -> bool {
-        self.flag(JOB)
+        self.flag(JOB_START)
     }
 
     // ---- the form of the bytes ----
@@ -233,49 +214,69 @@ impl<'a> View<'a> {
     pub fn is_saved_form(&self) -> bool {
         let s = self.state;
         let flag = |at: usize| s[at] < 2;
-        let reading = |at: usize| flag(at) && (s[at] == 1 || u64_at(s, at + 1) == 0);
-        let slot =
-            |row: usize, i: usize| flag(Self::slot_at(row, i)) && flag(Self::slot_at(row, i) + 1);
-        let typed = s[POSITION] > 10;
-        s[..16] == *b"ROUNDCAB\x01\0\0\0\0\0\0\0"
-            && flag(COMMISSIONED)
-            && (0..5).all(|i| reading(CONFIG + 20 + 9 * i))
-            && (0..10).all(|i| flag(CONFIG_SIGNERS + SIGNER_BYTES * i + 4))
-            && flag(CONFIG_END - 1)
-            && s[POSITION] < 15
-            && (if typed { s[POSITION + 1] < 4 } else { s[POSITION + 1] == 0 })
-            && (0..4).all(|row| (0..10).all(|i| slot(row, i)))
-            && (0..10).all(|i| flag(SHARES + SHARE_BYTES * i))
-            && (0..20).all(|i| flag(MARKS + i))
-            && reading(CLOCKS)
-            && reading(CLOCKS + 9)
-            && (KEYS..END).all(flag)
-            && s[END..].iter().all(|b| *b == 0)
+        let reading = |at: usize| flag(at) && (s[at] == 1 || u64_at(s, at + NANOSECONDS) == 0);
+        let slot = |row: usize, i: usize| flag(slot_at(row, i)) && flag(waits_at(row, i));
+        let signer = |i: usize| {
+            flag(signer_at(i) + HAS_KEYS)
+                && (0..RECORD_LIMIT).all(|row| slot(row, i))
+                && flag(shares_at(i))
+                && flag(MARKS_START + i)
+                && flag(malicious_at(i))
+        };
+        let (number, signature_type) = (s[POSITION_START], s[POSITION_START + SIGNATURE_TYPE]);
+        let typed = number > 10;
+        s[..VERSION_START] == *b"ROUNDCAB"
+            && u64_at(s, VERSION_START) == VERSION
+            && flag(COMMISSIONED_START)
+            && timeout_places().into_iter().all(reading)
+            && flag(CONFIG_START + VERIFY_PACKET_SIGS)
+            && number < 15
+            && (if typed { signature_type < 4 } else { signature_type == 0 })
+            && (0..SIGNER_LIMIT).all(signer)
+            && reading(CLOCKS_START)
+            && reading(CLOCKS_START + SIGN_START)
+            && flag(KEYS_START)
+            && flag(KEYS_START + AGGREGATE)
+            && flag(JOB_START)
+            && s[ZEROS_START..].iter().all(|b| *b == 0)
     }
 }
 
-/// Places that faults are put at.
-pub mod places {
-    pub const NONCE_START: usize = super::CLOCKS + 1;
-    pub const SIGN_ID: usize = super::IDS + 8;
-    pub const PADDING: usize = super::END;
+// ---- places of what a signer or a record has ----
 
-    pub fn malicious(slot: usize) -> usize {
-        super::MARKS + 10 + slot
-    }
+fn timeout_places() -> [usize; TIMEOUT_COUNT] {
+    [0, DKG_PRIVATE_TIMEOUT, DKG_END_TIMEOUT, NONCE_TIMEOUT, SIGN_TIMEOUT]
+        .map(|at| CONFIG_START + TIMEOUTS + at)
+}
 
-    pub fn waits(row: usize, slot: usize) -> usize {
-        super::View::slot_at(row, slot) + 1
-    }
+fn signer_at(slot: usize) -> usize {
+    CONFIG_START + SIGNERS + SIGNER_BYTES * slot
+}
 
-    pub fn stored_nonces(row: usize, slot: usize) -> usize {
-        super::STORED_RECORD * row
-            + super::STORED_MESSAGE
-            + super::STORED_RESPONSE * slot
-            + super::STORED_KEYS
-    }
+fn row_at(row: usize) -> usize {
+    RECORDS_START + ROW_BYTES * row
+}
 
-    pub fn stored_shares(slot: usize) -> usize {
-        super::STORED_SHARES + super::STORED_SHARE_LIST * slot
-    }
+fn slot_at(row: usize, slot: usize) -> usize {
+    row_at(row) + SLOTS + SLOT_BYTES * slot
+}
+
+fn shares_at(slot: usize) -> usize {
+    SHARES_START + SHARE_BYTES * slot
+}
+
+pub fn malicious_at(slot: usize) -> usize {
+    MARKS_START + MALICIOUS + slot
+}
+
+pub fn waits_at(row: usize, slot: usize) -> usize {
+    slot_at(row, slot) + WAITS
+}
+
+pub fn stored_nonces_at(row: usize, slot: usize) -> usize {
+    STORED_RECORD * row + STORED_MESSAGE + STORED_RESPONSE * slot + STORED_KEYS
+}
+
+pub fn stored_shares_at(slot: usize) -> usize {
+    STORED_SHARES + STORED_SHARE_LIST * slot
 }

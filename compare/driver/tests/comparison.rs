@@ -8,6 +8,7 @@ use compare::{
     fire_fields, generate,
     library::Surplus,
     library_fields, parse,
+    places::{layout, VERSION},
     reached::{corners, Reached},
     shrink::{self, Setting},
     text,
@@ -74,14 +75,18 @@ fn the_clock_follows_the_reading() {
 }
 
 extern "C" {
-    static rc_layout: [usize; 23];
+    static rc_layout: [usize; 27];
 }
 
-/// c.rs lays out what the header does.
+/// c.rs and places.rs lay out what the header does.
 #[test]
 fn header_and_declarations_agree() {
     use std::mem::{offset_of, size_of};
     let declared = [
+        VERSION as usize,
+        layout::MESSAGE_LIMIT,
+        layout::LIST_LIMIT,
+        layout::SIGNER_LIMIT,
         c::STATE_LENGTH,
         c::STORE_LENGTH,
         c::ANSWER_LENGTH,
