@@ -71,7 +71,7 @@ module _ (k : HostCall) (x : Host) where
       (rw (kept .0) r, kept .1)
 
 -- "Otherwise nothing": struct and store are equal after
-unchanged :
+pub unchanged :
     {q : HostRequest} {n : ℕ} {s s′ : Coordinator} {store store′ : List ℕ} → RefusalLeaves s store q n s′ store′ → changing n ≡ false
     → (s′ ≡ s) × (store′ ≡ store)
 unchanged (commissioning g n l h) c = absurd (false≢true (sym (rw (le-leb 1 n l, le-leb n 3 h) at c)))

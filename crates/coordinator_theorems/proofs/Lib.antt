@@ -9,6 +9,7 @@ pub mod EndsPackets
 pub mod Arrays
 pub mod Keeps
 pub mod Leaves
+pub mod Quiet
 pub mod Lent
 pub mod Calls
 pub mod Refines

@@ -23,9 +23,9 @@ pub fn commission(state: &mut [u8], store: &mut [u8], config: RcConfig) -> RcAns
     if state.len() < STATE_LENGTH {
         let none = loads::unsaved();
         let d = answers::refused(none, 4);
-        return kept::keep(state, false, d);
+        return kept::keep(state, false, false, d);
     }
     let g = configs::new_config(config);
     let d = coordinator::commission(g, store);
-    kept::keep(state, true, d)
+    kept::keep(state, true, false, d)
 }

@@ -26,7 +26,7 @@ pub fn process(
     let from = loads::load(state);
     let s = from.state;
     let heard = coordinator::process(s, store, out, clock, verdict != 0, packet);
-    kept::keep(state, from.saved, heard)
+    kept::keep(state, from.saved, false, heard)
 }
 
 pub fn process_message(
@@ -45,7 +45,7 @@ pub fn process_message(
     let from = loads::load(state);
     let s = from.state;
     let taken = coordinator::process_message(s, store, out, clock, verdict != 0, packet);
-    kept::keep(state, from.saved, taken)
+    kept::keep(state, from.saved, false, taken)
 }
 
 pub fn process_timeout(state: &mut [u8], store: &[u8], out: &mut [u8], clock: u64) -> RcAnswer
@@ -56,5 +56,5 @@ pub fn process_timeout(state: &mut [u8], store: &[u8], out: &mut [u8], clock: u6
     let from = loads::load(state);
     let s = from.state;
     let late = coordinator::process_timeout(s, store, out, clock);
-    kept::keep(state, from.saved, late)
+    kept::keep(state, from.saved, true, late)
 }

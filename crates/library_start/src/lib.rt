@@ -103,7 +103,7 @@ pub fn start_signing_round(
     let s = from.state;
     let id = sign_id_of(sign_id_given, sign_id);
     let d = start(s, store, out, clock, message, signature_type, root, id);
-    kept::keep(state, from.saved, d)
+    kept::keep(state, from.saved, false, d)
 }
 
 // A state above 14, a type above 3, or the last type with a root of another length, is refused with 8.
@@ -136,5 +136,5 @@ pub fn can_move_to(
     let from = loads::load(state);
     let s = from.state;
     let d = moves(s, store, next, signature_type, root);
-    kept::keep(state, from.saved, d)
+    kept::keep(state, from.saved, false, d)
 }

@@ -21,7 +21,7 @@ pub fn set_coordinator_key(state: &mut [u8], store: &[u8], held: u8) -> RcAnswer
     let from = loads::load(state);
     let s = from.state;
     let d = coordinator::set_key(s, store, HeldKey::Coordinator, held != 0);
-    kept::keep(state, from.saved, d)
+    kept::keep(state, from.saved, false, d)
 }
 
 pub fn set_group_key(state: &mut [u8], store: &[u8], held: u8) -> RcAnswer
@@ -32,7 +32,7 @@ pub fn set_group_key(state: &mut [u8], store: &[u8], held: u8) -> RcAnswer
     let from = loads::load(state);
     let s = from.state;
     let d = coordinator::set_key(s, store, HeldKey::Aggregate, held != 0);
-    kept::keep(state, from.saved, d)
+    kept::keep(state, from.saved, false, d)
 }
 
 pub fn take_results(state: &mut [u8], store: &[u8], dkg_id: u64, ended: &[u32]) -> RcAnswer
@@ -43,7 +43,7 @@ pub fn take_results(state: &mut [u8], store: &[u8], dkg_id: u64, ended: &[u32]) 
     let from = loads::load(state);
     let s = from.state;
     let d = coordinator::take_results(s, store, dkg_id, ended);
-    kept::keep(state, from.saved, d)
+    kept::keep(state, from.saved, false, d)
 }
 
 pub fn aggregated(state: &mut [u8], store: &[u8], ok: u8) -> RcAnswer
@@ -54,7 +54,7 @@ pub fn aggregated(state: &mut [u8], store: &[u8], ok: u8) -> RcAnswer
     let from = loads::load(state);
     let s = from.state;
     let d = coordinator::aggregated(s, store, ok != 0);
-    kept::keep(state, from.saved, d)
+    kept::keep(state, from.saved, false, d)
 }
 
 pub fn reset(state: &mut [u8], store: &[u8]) -> RcAnswer
@@ -64,5 +64,5 @@ pub fn reset(state: &mut [u8], store: &[u8]) -> RcAnswer
     let from = loads::load(state);
     let s = from.state;
     let idle = coordinator::reset(s, store);
-    kept::keep(state, from.saved, idle)
+    kept::keep(state, from.saved, false, idle)
 }

@@ -1,9 +1,11 @@
 -- Refused for a short buffer, or commissioned.
 -- Assumes nothing.
+use mathlib.Core.Bool.{false, false≢true}
 use borrow.Author.Needs.{needs}
 use borrow.Author.Tests.{le-leb, lt-leb}
 use Rattle.state.proofs.Turns.{error-did}
 use Rattle.interface.proofs.Call.{called}
+use Rattle.coordinator_theorems.proofs.Quiet.{commission-loud}
 use Rattle.library_commission.specs.Commissioned.{commissionedTurn}
 use Rattle.library_commission.proofs.commission.Statement.{statement}
 use Rattle.library_commission.proofs.commission.Tie as tie
@@ -27,8 +29,8 @@ returns c =
     let after-unsaved = after-refused .before in
     let then1 = after-unsaved .before in
     rw (lt-leb _ _ (then1 .if1 .taken))
-    (called _ _ (rw (← after-unsaved .unsaved .ensures) (error-did _ _ (after-refused .refused .ensures)))
-    (c .before .before .keep .ensures))
+    (called _ false _ (rw (← after-unsaved .unsaved .ensures) (error-did _ _ (after-refused .refused .ensures)))
+    (c .before .before .keep .ensures) (λ w q. absurd (false≢true w)))
 
 new-config-requires : tie.Need-new-config-requires
 new-config-requires c κs = search needs
@@ -52,7 +54,7 @@ returns-2 c =
     let after-new-config = after-commission .before .before in
     let else1 = after-new-config .before in
     rw (le-leb _ _ (else1 .if1 .left), ← after-new-config .new-config .ensures)
-    (called _ _ (after-commission .commission .ensures) (c .before .before .keep2 .ensures))
+    (called _ false _ (after-commission .commission .ensures) (c .before .before .keep2 .ensures) (λ w q. absurd (commission-loud _ _ q)))
 
 pub commission-spec : {M : Type 1} → statement M
 commission-spec =

@@ -1,8 +1,10 @@
 -- On the state that was loaded.
 -- Assumes nothing.
+use mathlib.Core.Bool.{false}
 use borrow.Author.Needs.{needs}
 use Rattle.library_start.specs.Given.{movedTurn}
 use Rattle.interface.proofs.Call.{call}
+use Rattle.library_start.proofs.Quiet.{moved-quiet}
 use Rattle.library_start.proofs.can_move_to.Statement.{statement}
 use Rattle.library_start.proofs.can_move_to.Tie as tie
 
@@ -24,8 +26,9 @@ returns c =
     let after-load = after-moves .before .before in
     let start = after-load .before .before .before .before .before in
     let args = start .args in
-    call (λ s. movedTurn (args .next) (args .signature-type) (args .root .now) s (args .store .now)) _
+    call (λ s. movedTurn (args .next) (args .signature-type) (args .root .now) s (args .store .now)) _ false
     (after-load .load .ensures) (after-moves .moves .ensures) (c .before .before .keep .ensures)
+    (λ s e. moved-quiet (args .next) (args .signature-type) (args .root .now) s (args .store .now))
 
 pub can-move-to-spec : {M : Type 1} → statement M
 can-move-to-spec =

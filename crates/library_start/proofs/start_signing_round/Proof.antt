@@ -1,9 +1,11 @@
 -- On the state that was loaded.
 -- Assumes nothing.
+use mathlib.Core.Bool.{false}
 use borrow.Author.Needs.{needs}
 use lib.ListN.{length}
 use Rattle.library_start.specs.Given.{signIdGiven, startedTurn}
 use Rattle.interface.proofs.Call.{call}
+use Rattle.library_start.proofs.Quiet.{started-quiet}
 use Rattle.library_start.proofs.start_signing_round.Statement.{statement}
 use Rattle.library_start.proofs.start_signing_round.Tie as tie
 
@@ -36,8 +38,9 @@ returns c =
     let id = signIdGiven (args .sign-id-given) (args .sign-id) in
     call
     (λ s. startedTurn (args .clock) message (args .signature-type) (args .root .now) id (length (args .out .now)) s
-    (args .store .now)) _ (after-load .load .ensures)
+    (args .store .now)) _ false (after-load .load .ensures)
     (rw (← after-sign-id-of .sign-id-of .ensures) (after-start .start .ensures)) (c .before .before .keep .ensures)
+    (λ s. started-quiet (args .clock) message (args .signature-type) (args .root .now) id (length (args .out .now)) s (args .store .now))
 
 pub start-signing-round-spec : {M : Type 1} → statement M
 start-signing-round-spec =

@@ -1,8 +1,11 @@
 -- On the state that was loaded.
 -- Assumes nothing.
+use mathlib.Core.Bool.{false}
 use borrow.Author.Needs.{needs}
 use Rattle.calls.specs.Calls.{aggregatedTurn}
 use Rattle.interface.specs.Configs.{isYes}
+use Rattle.coordinator_theorems.proofs.Quiet.{refused-quiet}
+use Rattle.coordinator_theorems.specs.Host.{aggregated, turnFor}
 use Rattle.interface.proofs.Call.{call}
 use Rattle.library_updates.proofs.aggregated.Statement.{statement}
 use Rattle.library_updates.proofs.aggregated.Tie as tie
@@ -20,10 +23,12 @@ same-length : tie.Need-same-length
 same-length c = search needs
 
 returns : tie.Need-returns
+unfolding turnFor
 returns c =
     let args = c .before .before .before .before .before .before .before .before .before .before .args in
-    call (λ s. aggregatedTurn (isYes (args .ok)) s (args .store .now)) _
+    call (λ s. aggregatedTurn (isYes (args .ok)) s (args .store .now)) _ false
     (c .before .before .before .before .before .before .load .ensures) (c .before .before .before .before .aggregated .ensures) (c .before .before .keep .ensures)
+    (λ s. refused-quiet (aggregated (isYes (args .ok))) 0 false 0 s (args .store .now))
 
 pub aggregated-spec : {M : Type 1} → statement M
 aggregated-spec =
