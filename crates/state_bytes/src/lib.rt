@@ -1,5 +1,7 @@
-// Where the fields of a saved state stand. What stands there is described in specs/. A struct's first field stands at its beginning; each other as many
-// bytes after it as the fields before take. The file is Rust too: the comparison with fire.rs includes it.
+// The coordinator's state as bytes: where each field stands. What stands there is described in specs/.
+
+// A struct's first field stands at its beginning; each other as many bytes after it as the fields before take. The file is Rust too: the comparison with
+// fire.rs includes it.
 use layout::LIST_LIMIT;
 use layout::MESSAGE_LIMIT;
 use layout::RECORD_LIMIT;

@@ -34,47 +34,8 @@ from-signers c = from-timeouts (c .before .before .before .before)
 abbrev from-number6 : tie.After-put-number6 → tie.Start
 from-number6 c = from-signers (c .before .before .before .before)
 
-cast-put-number : tie.Need-cast-put-number
-cast-put-number c = search needs
-
-put-number-requires : tie.Need-put-number-requires
-put-number-requires c κs = search needs
-
-add-put-number : tie.Need-add-put-number
-add-put-number c = search needs
-
-cast-put-number-2 : tie.Need-cast-put-number-2
-cast-put-number-2 c = search needs
-
-put-number-requires-2 : tie.Need-put-number-requires-2
-put-number-requires-2 c κs = search needs
-
-add-put-number-2 : tie.Need-add-put-number-2
-add-put-number-2 c = search needs
-
-cast-put-number-3 : tie.Need-cast-put-number-3
-cast-put-number-3 c = search needs
-
-put-number-requires-3 : tie.Need-put-number-requires-3
-put-number-requires-3 c κs = search needs
-
-add-put-number-3 : tie.Need-add-put-number-3
-add-put-number-3 c = search needs
-
-cast-put-number-4 : tie.Need-cast-put-number-4
-cast-put-number-4 c = search needs
-
-put-number-requires-4 : tie.Need-put-number-requires-4
-put-number-requires-4 c κs = search needs
-
 add-put-number-4 : tie.Need-add-put-number-4
 add-put-number-4 c = omega (arith, from-number4 (c .before .before .before) .pre)
-
-cast-put-number-5 : tie.Need-cast-put-number-5
-cast-put-number-5 c = search needs
-
-put-number-requires-5 : tie.Need-put-number-requires-5
-put-number-requires-5 c κs = search needs
 
 add-put-timeouts : tie.Need-add-put-timeouts
 add-put-timeouts c = omega (arith, from-number5 (c .before .before .before) .pre)
@@ -91,14 +52,8 @@ put-signers-requires c κs = omega (arith, from-timeouts (c .before .before .bef
 add-put-number-5 : tie.Need-add-put-number-5
 add-put-number-5 c = omega (arith, from-signers (c .before .before .before) .pre)
 
-put-number-requires-6 : tie.Need-put-number-requires-6
-put-number-requires-6 c κs = search needs
-
 add-put-flag : tie.Need-add-put-flag
 add-put-flag c = omega (arith, from-number6 (c .before .before .before) .pre)
-
-put-flag-requires : tie.Need-put-flag-requires
-put-flag-requires c κs = search needs
 
 returns : tie.Need-returns
 unfolding joined pieces readingParts readingForm timeoutsForm keyForm signerForm configForm
@@ -132,27 +87,27 @@ pub put-config-spec : {M : Type 1} → statement M
 put-config-spec =
     tie.close
     (tie.spec
-    cast-put-number
-    put-number-requires
-    add-put-number
-    cast-put-number-2
-    put-number-requires-2
-    add-put-number-2
-    cast-put-number-3
-    put-number-requires-3
-    add-put-number-3
-    cast-put-number-4
-    put-number-requires-4
+    (λ c. search needs)
+    (λ c κs. search needs)
+    (λ c. search needs)
+    (λ c. search needs)
+    (λ c κs. search needs)
+    (λ c. search needs)
+    (λ c. search needs)
+    (λ c κs. search needs)
+    (λ c. search needs)
+    (λ c. search needs)
+    (λ c κs. search needs)
     add-put-number-4
-    cast-put-number-5
-    put-number-requires-5
+    (λ c. search needs)
+    (λ c κs. search needs)
     add-put-timeouts
     put-timeouts-requires
     add-put-signers
     put-signers-requires
     add-put-number-5
-    put-number-requires-6
+    (λ c κs. search needs)
     add-put-flag
-    put-flag-requires
+    (λ c κs. search needs)
     same-length
     returns)

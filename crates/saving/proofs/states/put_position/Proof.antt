@@ -11,39 +11,6 @@ use Rattle.state_bytes.specs.Description.{savedType, stateParts, stateForm, pos
 use Rattle.state_table.proofs.Table.{state-below}
 use Rattle.form.proofs.Writing.{then, last, written, one-byte}
 
-state-number-requires : tie.Need-state-number-requires
-state-number-requires c κs = search needs
-
-type-in-requires : tie.Need-type-in-requires
-type-in-requires c κs = search needs
-
-type-byte-requires : tie.Need-type-byte-requires
-type-byte-requires c κs = search needs
-
-put-number-requires : tie.Need-put-number-requires
-put-number-requires c κs = search needs
-
-add-put-number : tie.Need-add-put-number
-add-put-number c = search needs
-
-cast-put-number : tie.Need-cast-put-number
-cast-put-number c = search needs
-
-put-number-requires-2 : tie.Need-put-number-requires-2
-put-number-requires-2 c κs = search needs
-
-add-copy : tie.Need-add-copy
-add-copy c = search needs
-
-slice-aggregate-copy : tie.Need-slice-aggregate-copy
-slice-aggregate-copy c = search needs
-
-copy-requires : tie.Need-copy-requires
-copy-requires c κs = search needs
-
-same-length : tie.Need-same-length
-same-length c = search needs
-
 returns : tie.Need-returns
 unfolding joined pieces positionForm stateForm stateParts
 returns c =
@@ -67,15 +34,15 @@ pub put-position-spec : {M : Type 1} → statement M
 put-position-spec =
     tie.close
     (tie.spec
-    state-number-requires
-    type-in-requires
-    type-byte-requires
-    put-number-requires
-    add-put-number
-    cast-put-number
-    put-number-requires-2
-    add-copy
-    slice-aggregate-copy
-    copy-requires
-    same-length
+    (λ c κs. search needs)
+    (λ c κs. search needs)
+    (λ c κs. search needs)
+    (λ c κs. search needs)
+    (λ c. search needs)
+    (λ c. search needs)
+    (λ c κs. search needs)
+    (λ c. search needs)
+    (λ c. search needs)
+    (λ c κs. search needs)
+    (λ c. search needs)
     returns)

@@ -12,18 +12,6 @@ use Rattle.form.proofs.Lawful.{flag-lawful, each-lawful}
 use Rattle.form.proofs.Writing.{then, last, written}
 use Rattle.state_bytes.proofs.AllSaves.{marks-fit}
 
-put-flags-requires : tie.Need-put-flags-requires
-put-flags-requires c κs = search needs
-
-add-put-flags : tie.Need-add-put-flags
-add-put-flags c = search needs
-
-put-flags-requires-2 : tie.Need-put-flags-requires-2
-put-flags-requires-2 c κs = search needs
-
-same-length : tie.Need-same-length
-same-length c = search needs
-
 returns : tie.Need-returns
 unfolding joined pieces marksForm
 returns c =
@@ -35,4 +23,10 @@ returns c =
 
 pub put-marks-spec : {M : Type 1} → statement M
 put-marks-spec =
-    tie.close (tie.spec put-flags-requires add-put-flags put-flags-requires-2 same-length returns)
+    tie.close
+    (tie.spec
+    (λ c κs. search needs)
+    (λ c. search needs)
+    (λ c κs. search needs)
+    (λ c. search needs)
+    returns)

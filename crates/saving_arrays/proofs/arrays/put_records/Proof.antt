@@ -13,18 +13,6 @@ use Rattle.form.proofs.Writing.{then, last, written}
 use Rattle.state_bytes.proofs.Described.{row-lawful}
 use Rattle.state_bytes.proofs.AllSaves.{records-fit}
 
-put-rows-requires : tie.Need-put-rows-requires
-put-rows-requires c κs = search needs
-
-add-put-number : tie.Need-add-put-number
-add-put-number c = search needs
-
-put-number-requires : tie.Need-put-number-requires
-put-number-requires c κs = search needs
-
-same-length : tie.Need-same-length
-same-length c = search needs
-
 returns : tie.Need-returns
 unfolding joined pieces recordsForm rowForm slotForm idsForm
 returns c =
@@ -36,4 +24,10 @@ returns c =
 
 pub put-records-spec : {M : Type 1} → statement M
 put-records-spec =
-    tie.close (tie.spec put-rows-requires add-put-number put-number-requires same-length returns)
+    tie.close
+    (tie.spec
+    (λ c κs. search needs)
+    (λ c. search needs)
+    (λ c κs. search needs)
+    (λ c. search needs)
+    returns)

@@ -10,18 +10,6 @@ use Rattle.state_bytes.specs.Description.{rowForm}
 use Rattle.wire.proofs.Numbers.{length-le}
 use Rattle.form.proofs.Writing.{then, last, written}
 
-put-number-requires : tie.Need-put-number-requires
-put-number-requires c κs = search needs
-
-add-put-slots : tie.Need-add-put-slots
-add-put-slots c = search needs
-
-put-slots-requires : tie.Need-put-slots-requires
-put-slots-requires c κs = search needs
-
-same-length : tie.Need-same-length
-same-length c = search needs
-
 returns : tie.Need-returns
 unfolding joined pieces rowForm
 returns c =
@@ -32,4 +20,10 @@ returns c =
 
 pub put-row-spec : {M : Type 1} → statement M
 put-row-spec =
-    tie.close (tie.spec put-number-requires add-put-slots put-slots-requires same-length returns)
+    tie.close
+    (tie.spec
+    (λ c κs. search needs)
+    (λ c. search needs)
+    (λ c κs. search needs)
+    (λ c. search needs)
+    returns)

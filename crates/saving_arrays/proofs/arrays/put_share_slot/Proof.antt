@@ -11,27 +11,6 @@ use Rattle.form.specs.Form.{pieces}
 use Rattle.state_bytes.specs.Description.{shareForm}
 use Rattle.form.proofs.Writing.{then, last, written}
 
-put-flag-requires : tie.Need-put-flag-requires
-put-flag-requires c κs = search needs
-
-add-put-number : tie.Need-add-put-number
-add-put-number c = search needs
-
-put-number-requires : tie.Need-put-number-requires
-put-number-requires c κs = search needs
-
-add-copy : tie.Need-add-copy
-add-copy c = search needs
-
-slice-aggregate-copy : tie.Need-slice-aggregate-copy
-slice-aggregate-copy c = search needs
-
-copy-requires : tie.Need-copy-requires
-copy-requires c κs = search needs
-
-same-length : tie.Need-same-length
-same-length c = search needs
-
 returns : tie.Need-returns
 unfolding joined pieces shareForm
 returns c =
@@ -46,11 +25,11 @@ pub put-share-slot-spec : {M : Type 1} → statement M
 put-share-slot-spec =
     tie.close
     (tie.spec
-    put-flag-requires
-    add-put-number
-    put-number-requires
-    add-copy
-    slice-aggregate-copy
-    copy-requires
-    same-length
+    (λ c κs. search needs)
+    (λ c. search needs)
+    (λ c κs. search needs)
+    (λ c. search needs)
+    (λ c. search needs)
+    (λ c κs. search needs)
+    (λ c. search needs)
     returns)

@@ -15,33 +15,6 @@ use Rattle.form.proofs.Writing.{then, last, written}
 use Rattle.state_bytes.proofs.Described.{key-lawful}
 use Rattle.state_bytes.proofs.AllSaves.{signer-fits}
 
-cast-put-number : tie.Need-cast-put-number
-cast-put-number c = search needs
-
-put-number-requires : tie.Need-put-number-requires
-put-number-requires c κs = search needs
-
-add-put-flag : tie.Need-add-put-flag
-add-put-flag c = search needs
-
-put-flag-requires : tie.Need-put-flag-requires
-put-flag-requires c κs = search needs
-
-add-put-key-ids : tie.Need-add-put-key-ids
-add-put-key-ids c = search needs
-
-put-key-ids-requires : tie.Need-put-key-ids-requires
-put-key-ids-requires c κs = search needs
-
-add-put-number : tie.Need-add-put-number
-add-put-number c = search needs
-
-put-number-requires-2 : tie.Need-put-number-requires-2
-put-number-requires-2 c κs = search needs
-
-same-length : tie.Need-same-length
-same-length c = search needs
-
 returns : tie.Need-returns
 unfolding joined pieces signerForm keyForm
 returns c =
@@ -59,13 +32,13 @@ pub put-signer-spec : {M : Type 1} → statement M
 put-signer-spec =
     tie.close
     (tie.spec
-    cast-put-number
-    put-number-requires
-    add-put-flag
-    put-flag-requires
-    add-put-key-ids
-    put-key-ids-requires
-    add-put-number
-    put-number-requires-2
-    same-length
+    (λ c. search needs)
+    (λ c κs. search needs)
+    (λ c. search needs)
+    (λ c κs. search needs)
+    (λ c. search needs)
+    (λ c κs. search needs)
+    (λ c. search needs)
+    (λ c κs. search needs)
+    (λ c. search needs)
     returns)

@@ -10,18 +10,6 @@ use Rattle.state_bytes.specs.Description.{clocksForm, readingForm, readingParts
 use Rattle.state_bytes.proofs.Described.{reading-long}
 use Rattle.form.proofs.Writing.{then, last, written}
 
-put-reading-requires : tie.Need-put-reading-requires
-put-reading-requires c κs = search needs
-
-add-put-reading : tie.Need-add-put-reading
-add-put-reading c = search needs
-
-put-reading-requires-2 : tie.Need-put-reading-requires-2
-put-reading-requires-2 c κs = search needs
-
-same-length : tie.Need-same-length
-same-length c = search needs
-
 returns : tie.Need-returns
 unfolding joined pieces clocksForm readingForm readingParts
 returns c =
@@ -34,4 +22,9 @@ returns c =
 pub put-clocks-spec : {M : Type 1} → statement M
 put-clocks-spec =
     tie.close
-    (tie.spec put-reading-requires add-put-reading put-reading-requires-2 same-length returns)
+    (tie.spec
+    (λ c κs. search needs)
+    (λ c. search needs)
+    (λ c κs. search needs)
+    (λ c. search needs)
+    returns)

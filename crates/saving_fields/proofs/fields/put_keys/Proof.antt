@@ -10,18 +10,6 @@ use Rattle.form.specs.Form.{pieces}
 use Rattle.state_bytes.specs.Description.{keysForm}
 use Rattle.form.proofs.Writing.{then, last, written}
 
-put-flag-requires : tie.Need-put-flag-requires
-put-flag-requires c κs = search needs
-
-add-put-flag : tie.Need-add-put-flag
-add-put-flag c = search needs
-
-put-flag-requires-2 : tie.Need-put-flag-requires-2
-put-flag-requires-2 c κs = search needs
-
-same-length : tie.Need-same-length
-same-length c = search needs
-
 returns : tie.Need-returns
 unfolding joined pieces keysForm
 returns c =
@@ -31,4 +19,10 @@ returns c =
 
 pub put-keys-spec : {M : Type 1} → statement M
 put-keys-spec =
-    tie.close (tie.spec put-flag-requires add-put-flag put-flag-requires-2 same-length returns)
+    tie.close
+    (tie.spec
+    (λ c κs. search needs)
+    (λ c. search needs)
+    (λ c κs. search needs)
+    (λ c. search needs)
+    returns)

@@ -12,36 +12,6 @@ use Rattle.state_bytes.specs.Description.{slotForm, idsForm}
 use Rattle.state_bytes.proofs.Described.{ids-long}
 use Rattle.form.proofs.Writing.{then, last, written}
 
-put-flag-requires : tie.Need-put-flag-requires
-put-flag-requires c κs = search needs
-
-add-put-flag : tie.Need-add-put-flag
-add-put-flag c = search needs
-
-put-flag-requires-2 : tie.Need-put-flag-requires-2
-put-flag-requires-2 c κs = search needs
-
-add-put-ids : tie.Need-add-put-ids
-add-put-ids c = search needs
-
-put-ids-requires : tie.Need-put-ids-requires
-put-ids-requires c κs = search needs
-
-add-put-number : tie.Need-add-put-number
-add-put-number c = search needs
-
-put-number-requires : tie.Need-put-number-requires
-put-number-requires c κs = search needs
-
-add-put-number-2 : tie.Need-add-put-number-2
-add-put-number-2 c = search needs
-
-put-number-requires-2 : tie.Need-put-number-requires-2
-put-number-requires-2 c κs = search needs
-
-same-length : tie.Need-same-length
-same-length c = search needs
-
 returns : tie.Need-returns
 unfolding joined pieces slotForm idsForm
 returns c =
@@ -60,14 +30,14 @@ pub put-slot-spec : {M : Type 1} → statement M
 put-slot-spec =
     tie.close
     (tie.spec
-    put-flag-requires
-    add-put-flag
-    put-flag-requires-2
-    add-put-ids
-    put-ids-requires
-    add-put-number
-    put-number-requires
-    add-put-number-2
-    put-number-requires-2
-    same-length
+    (λ c κs. search needs)
+    (λ c. search needs)
+    (λ c κs. search needs)
+    (λ c. search needs)
+    (λ c κs. search needs)
+    (λ c. search needs)
+    (λ c κs. search needs)
+    (λ c. search needs)
+    (λ c κs. search needs)
+    (λ c. search needs)
     returns)

@@ -10,36 +10,6 @@ use Rattle.state_bytes.specs.Description.{timeoutsForm, readingForm, readingPar
 use Rattle.state_bytes.proofs.Described.{reading-long}
 use Rattle.form.proofs.Writing.{then, last, written}
 
-put-reading-requires : tie.Need-put-reading-requires
-put-reading-requires c κs = search needs
-
-add-put-reading : tie.Need-add-put-reading
-add-put-reading c = search needs
-
-put-reading-requires-2 : tie.Need-put-reading-requires-2
-put-reading-requires-2 c κs = search needs
-
-add-put-reading-2 : tie.Need-add-put-reading-2
-add-put-reading-2 c = search needs
-
-put-reading-requires-3 : tie.Need-put-reading-requires-3
-put-reading-requires-3 c κs = search needs
-
-add-put-reading-3 : tie.Need-add-put-reading-3
-add-put-reading-3 c = search needs
-
-put-reading-requires-4 : tie.Need-put-reading-requires-4
-put-reading-requires-4 c κs = search needs
-
-add-put-reading-4 : tie.Need-add-put-reading-4
-add-put-reading-4 c = search needs
-
-put-reading-requires-5 : tie.Need-put-reading-requires-5
-put-reading-requires-5 c κs = search needs
-
-same-length : tie.Need-same-length
-same-length c = search needs
-
 returns : tie.Need-returns
 unfolding joined pieces timeoutsForm readingForm readingParts
 returns c =
@@ -59,14 +29,14 @@ pub put-timeouts-spec : {M : Type 1} → statement M
 put-timeouts-spec =
     tie.close
     (tie.spec
-    put-reading-requires
-    add-put-reading
-    put-reading-requires-2
-    add-put-reading-2
-    put-reading-requires-3
-    add-put-reading-3
-    put-reading-requires-4
-    add-put-reading-4
-    put-reading-requires-5
-    same-length
+    (λ c κs. search needs)
+    (λ c. search needs)
+    (λ c κs. search needs)
+    (λ c. search needs)
+    (λ c κs. search needs)
+    (λ c. search needs)
+    (λ c κs. search needs)
+    (λ c. search needs)
+    (λ c κs. search needs)
+    (λ c. search needs)
     returns)
