@@ -17,6 +17,7 @@
  *       if (a.class_ == RC_PACKET) seal_and_send(out, a.length);
  *       if (a.class_ == RC_JOB) a = rc_aggregated(BOTH, a.mark && aggregate(out, a.length)), save(state, store, out, a);
  *       if (rc_is_idle(BOTH)) return;                                        signed
+ *       if (operator_asks()) tell_operator(out, rc_tell_arrivals(ALL));      who has answered, and when
  *       a = receive(packet, &length) ? rc_process_message(ALL, now(), is_sealed_well(packet, length), packet, length) : rc_process_timeout(ALL, now());
  *   }
  *
@@ -32,8 +33,8 @@
  * only what is said below. The answer's numbers are all in the promise: first and second are 0 where values does not count them.
  *
  * What the host vouches for, because nothing here can see it:
- *   - the lengths beside pointers are true, the buffers of one call do not overlap, and one caller at a time uses them. state, store and out are not NULL;
- *     what is only read (ended, message, root, packet, source, a signer's lists) may be NULL where its length is 0;
+ *   - the lengths beside pointers are true, the buffers of one call do not overlap, and one caller at a time uses them (but see THREADS). state, store and out
+ *     are not NULL; what is only read (ended, message, root, packet, source, a signer's lists) may be NULL where its length is 0;
  *   - nobody else writes state or store between calls;
  *   - the verdict on a packet's seal (signature), and that other points and scalars than identity and generator are what they claim to be;
  *   - clock readings in nanoseconds that do not go back (a reading that does counts as no time elapsed);
@@ -43,7 +44,8 @@
  *   - enough stack (RC_STACK below).
  *
  * THREADS. The library has no data of its own that can be written, and no locks: separate buffers may be used from separate threads at once (hosts/c/threads.c
- * has eight; it was run under a thread sanitizer too). One coordinator's buffers have one caller at a time.
+ * has eight; it was run under a thread sanitizer too). One coordinator's buffers have one caller at a time. Only rc_tell_arrivals, which writes to neither
+ * state nor store, may be asked by several threads at once, each with an out of its own, while no other call is made on them (threads.c does that too).
  *
  * DEBUGGERS. The archive has no unwind tables, so a backtrace ends at the library's call. It calls nobody back, so nothing is thrown through it.
  *
@@ -69,6 +71,7 @@
  *     32 job                      to the host   type, three ids           message, root, key ids, nonces, one for each share as in 4
  *     33 nonce timeout            to the host   none                      who has answered, who is struck (signer ids, 4 bytes each)
  *     34 insufficient signers     to the host   none                      who is struck
+ *     35 arrivals                 to the host   none                      who has answered (signer ids, 4 bytes each), when (clock readings, 8 bytes each)
  *
  * So kinds 2 and 4 have type 0, whatever is signed. A root has 32 bytes where the type is 3, else 0. Whose seal a kind bears stands under "from". In 3 and 32
  * lists are each signer's own, joined in ascending order of signers. A share's id is its party's, as the signer says it (WSTS's first form: the key; its second:
@@ -95,15 +98,17 @@ extern "C" {
 #define RC_ANSWERS
 #endif
 
-/* This header's version: 65536 for each major, 256 for each minor, 1 for each patch number. rc_version() says the linked archive's; a host that finds
- * another one has a header and an archive that do not belong together. RC_STATE_VERSION stands in bytes 8 to 15 of a saved state; a state of another version
- * is refused with RC_REFUSED_STATE. */
-#define RC_VERSION 768u
-#define RC_STATE_VERSION 1
+/* This header's version: 65536 for each major, 256 for each minor, 1 for each patch number. rc_version() says the linked archive's; a
+ * host that finds another one has a header and an archive that do not belong together. RC_STATE_VERSION stands in bytes 8 to 15 of a
+ * saved state; a state of another version is refused with RC_REFUSED_STATE. Version 1, of 3,200 bytes, is that of the releases before
+ * this one: once no round is in hand the coordinator has to be commissioned anew, and the results taken again (docs/HOSTS.md, "From
+ * version 1 of the saved state to version 2"). */
+#define RC_VERSION 1024u
+#define RC_STATE_VERSION 2
 uint32_t rc_version(void) RC_ANSWERS;
 
 /* Lengths. */
-#define RC_STATE_LENGTH 3200
+#define RC_STATE_LENGTH 3520
 #define RC_STORE_LENGTH 52224
 #define RC_ANSWER_LENGTH 19232
 #define RC_MESSAGE_LIMIT 256
@@ -118,18 +123,18 @@ uint32_t rc_version(void) RC_ANSWERS;
 
 /* Stack: how much is enough for each call, in bytes, whatever path it takes (retry, job and refusals included). It is counted from where the caller's frame
  * ends: arguments that lie on the stack are in it, the caller's own frames and signal handlers are not. The deepest is known over all paths, from the
- * archive's instructions (hosts/c/depth.py: 74672, 22032, 36496 and 7888 bytes), and at least a quarter of that was added. hosts/c/stack.c makes each call on
+ * archive's instructions (hosts/c/depth.py: 80608, 23632, 39696 and 7888 bytes), and at least a quarter of that was added. hosts/c/stack.c makes each call on
  * a stack of exactly this size. A frame of more than a page touches each page from the top down: on a stack that is too small and has a guard page below it
  * the call dies there, and writes to nobody's memory. A thread of 64 KiB is too small for rc_process, and would die only once a well-formed packet comes. */
 #define RC_STACK_PROCESS (100 * 1024)   /* rc_process, rc_process_message */
-#define RC_STACK_COMMISSION (28 * 1024) /* rc_commission */
+#define RC_STACK_COMMISSION (30 * 1024) /* rc_commission */
 #define RC_STACK_CALL (50 * 1024)       /* every other call that is lent a state */
 #define RC_STACK_PACKET (12 * 1024)     /* rc_read_packet, rc_packet_part, rc_version and the writers: what is lent no state */
 #define RC_STACK RC_STACK_PROCESS       /* any call */
 
 /* Classes of answers. RC_NOTHING says "recorded" and "dropped" alike, as fire.rs does: a response that counts, one that came twice, one of a struck signer.
  * What tells them apart is the state: a call that recorded something has changed its bytes, one that dropped its packet has changed neither state nor store.
- * And on a COPY of state and store rc_process_timeout, with a late clock while nonces are gathered, names who has answered (kind 33). */
+ * And rc_tell_arrivals names who has answered the current message, and when. */
 #define RC_NOTHING 0u /* nothing to do */
 #define RC_PACKET 1u  /* out holds a packet to be sealed and sent to the signers */
 #define RC_JOB 2u     /* out holds a job for the aggregator; answer it with rc_aggregated */
@@ -147,6 +152,7 @@ uint32_t rc_version(void) RC_ANSWERS;
 #define RC_KIND_JOB 32
 #define RC_KIND_NONCE_TIMEOUT 33
 #define RC_KIND_INSUFFICIENT_SIGNERS 34
+#define RC_KIND_ARRIVALS 35
 
 /* Signature types. */
 #define RC_FROST 0
@@ -230,6 +236,7 @@ static inline const char *rc_kind_text(uint32_t kind) {
     case RC_KIND_JOB: return "job";
     case RC_KIND_NONCE_TIMEOUT: return "nonce timeout";
     case RC_KIND_INSUFFICIENT_SIGNERS: return "insufficient signers";
+    case RC_KIND_ARRIVALS: return "arrivals";
     default: return "no kind of this library's";
     }
 }
@@ -323,6 +330,21 @@ rc_answer rc_process_message(uint8_t *state, size_t state_length, uint8_t *store
 rc_answer rc_process_timeout(uint8_t *state, size_t state_length, const uint8_t *store, size_t store_length, uint8_t *out, size_t out_length,
                              uint64_t clock) RC_LENT(1, 3, 5);
 
+/* Who has answered the current message, and when, for an operator who calls slow signers before the timeout: RC_RESULT, kind 35 in out, of 48 bytes and 12 for
+ * each of them. Two lists: signer ids, ascending, and for each the clock reading of the call that recorded its response (rc_process or rc_process_message),
+ * the host's own, as it was given, also where it went back or came late. Both are empty where nobody has answered. Whom one would call is every configured
+ * signer that is neither in the list nor struck.
+ *
+ * A second response leaves the first one's reading. Refusal 10 while nonces are gathered keeps the response and its reading. A nonce request empties the list
+ * (a start, a retry, a request that is taken in Idle), and so do rc_reset and commissioning. Success does not: in Idle it is still the last round's. The
+ * current message is that of the last start, also of one that was refused with 11, so that the list is often empty then; or the message that took its place
+ * because enough keys answered it first.
+ *
+ * It takes no clock, tests no timeout and writes to neither state nor store: there is nothing to save after it. What lay in out is written over, so what is
+ * to be sent leaves before, or the query is lent another out. Asked 4, 5, 7. */
+rc_answer rc_tell_arrivals(const uint8_t *state, size_t state_length, const uint8_t *store, size_t store_length, uint8_t *out,
+                           size_t out_length) RC_LENT(1, 3, 5);
+
 /* The aggregator's answer to the job that is out. ok not 0: RC_RESULT with number 0, first the kind of signature (0 sign, 1 schnorr, 2 taproot), and
  * Idle. ok 0: RC_RESULT with number 23; nobody is waited for, the state stays. Asked 4, 6, 23. The mark is not asked: ok is taken as it is said.
  *
@@ -374,7 +396,7 @@ typedef struct rc_part {
 rc_packet rc_read_packet(const uint8_t *packet, size_t packet_length) RC_ANSWERS;
 
 /* Where part i (from 0) of a packet that is taken lies: always inside the packet; length 0 where there is no such part. Which parts a kind has says the table
- * on the first page. What only goes out (kinds 32 to 34) is not taken by the reader; its parts are found in the same way, by the pairs behind the header. */
+ * on the first page. What only goes out (kinds 32 to 35) is not taken by the reader; its parts are found in the same way, by the pairs behind the header. */
 rc_part rc_packet_part(const uint8_t *packet, size_t packet_length, uint16_t i) RC_ANSWERS;
 
 /*
@@ -403,6 +425,19 @@ typedef struct rc_signer_ids {
     uint32_t ids[RC_SIGNER_LIMIT];
     uint64_t count;
 } rc_signer_ids;
+
+/* A signer, and the clock reading at which it answered. reserved is not looked at. */
+typedef struct rc_arrival {
+    uint32_t signer_id;
+    uint32_t reserved;
+    uint64_t clock;
+} rc_arrival;
+
+/* The first count of arrivals, in the order given; a count above RC_SIGNER_LIMIT is RC_REFUSED_LIMIT. */
+typedef struct rc_arrivals {
+    rc_arrival arrivals[RC_SIGNER_LIMIT];
+    uint64_t count;
+} rc_arrivals;
 
 /* A list in the bytes that are lent as source: where it begins, and how many entries it has. One that does not lie inside is RC_REFUSED_LIMIT. */
 typedef struct rc_place {
@@ -454,9 +489,10 @@ rc_written rc_write_dkg_begin(uint8_t *out, size_t out_length, uint64_t dkg_id) 
 rc_written rc_write_dkg_signer(uint8_t *out, size_t out_length, uint32_t signer_id, uint64_t dkg_id) RC_LENT(1);
 rc_written rc_write_dkg_coordinator(uint8_t *out, size_t out_length, uint64_t dkg_id) RC_LENT(1);
 
-/* Kinds 33 and 34. */
+/* Kinds 33, 34 and 35. */
 rc_written rc_write_nonce_timeout(uint8_t *out, size_t out_length, rc_signer_ids waiters, rc_signer_ids malicious) RC_LENT(1);
 rc_written rc_write_insufficient_signers(uint8_t *out, size_t out_length, rc_signer_ids malicious) RC_LENT(1);
+rc_written rc_write_arrivals(uint8_t *out, size_t out_length, rc_arrivals arrivals) RC_LENT(1);
 
 /*
  * A signer's writers, for a program that holds no coordinator: what a signer sends, from plain fields and lists. Each writes one packet to the front of

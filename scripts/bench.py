@@ -1,7 +1,7 @@
 #!/usr/bin/env python3
 """Writes crates/bench/stdin and crates/bench/stdout: the cases of the host's test program for Bench, and what it must print.
 
-The model below is written from document 01 ("Packet layout", questions 7 to 9, "The table of states") and from document 02's a) and d),
+The model below is written from document 01 ("Packet layout", questions 7 to 9, "The table of states") and from document 02's a), d) and e),
 and shares no code with the crates. Run from the repository's root; both files are committed, so nothing needs this script to pass.
 """
 import itertools
@@ -255,6 +255,18 @@ def w_insufficient(label, malicious, lent=19232):
     case("I", label, "00 2:%d 2:%d" % (lent, malicious), wrote(packet(34, [signer_ids(malicious)]), min(lent, 19240), asked(lent, malicious <= 10)))
 
 
+def w_arrivals(label, arrivals, lent=19232):
+    """Kind 35 (02, e): the signers' ids, four bytes each, then when each answered, eight bytes each."""
+    data = packet(35, [b"".join(le(4, i) for i, _ in arrivals), b"".join(le(8, clock) for _, clock in arrivals)])
+    each = "".join(" 4:%d 8:%d" % a for a in arrivals[:10])
+    case("A", label, "00 2:%d 2:%d%s" % (lent, len(arrivals), each), wrote(data, min(lent, 19240), asked(lent, len(arrivals) <= 10)))
+
+
+def some_arrivals(n):
+    """n signers, not in order, each reading of eight bytes of its own."""
+    return [(0x04030201 * (7 * i % 16), int.from_bytes(bytes(range(8 * i + 1, 8 * i + 9)), "little")) for i in range(n)]
+
+
 def w_dkg(label, kind, dkg, signer=0, lent=19232):
     data = packet(kind, [], 0, signer, (dkg, 0, 0))
     case(str(kind), label, "00 2:%d 2:%d 2:%d" % (lent, dkg, signer), wrote(data, min(lent, 19240), asked(lent, True)))
@@ -481,6 +493,9 @@ def main():
     w_job("job, nobody", 0, 0, 0, 0, 0, 0)
     w_timeout("nonce timeout", 2, 1)
     w_insufficient("insufficient signers", 3)
+    w_arrivals("arrivals", [(0, 103), (2, 101)])
+    w_arrivals("arrivals, nobody's", [])
+    w_arrivals("arrivals, largest numbers", [(2 ** 32 - 1, 2 ** 64 - 1)] * 2)
     w_dkg("DkgBegin", 5, 7)
     w_dkg("key generation, a signer's", 6, 7, 4)
     w_dkg("key generation, the coordinator's", 7, 7)
@@ -526,6 +541,7 @@ def main():
         w_timeout("nonce timeout, %d waiters" % n, n, 1)
         w_timeout("nonce timeout, %d malicious" % n, 1, n)
         w_insufficient("insufficient signers, %d" % n, n)
+        w_arrivals("arrivals, %d" % n, some_arrivals(n))
     w_share_request("largest share request", 3, 256, 10, 16, 16)
     w_job("largest job: the whole answer buffer", 3, 256, 10, 16, 16, 1)
     w_job("largest job, eight bytes more lent", 3, 256, 10, 16, 16, 1, 19240)
@@ -535,6 +551,7 @@ def main():
         w_job("job, buffer of %d" % n, 0, 5, 1, 1, 1, 1, n)
         w_timeout("nonce timeout, buffer of %d" % n, 1, 1, n)
         w_insufficient("insufficient signers, buffer of %d" % n, 1, n)
+        w_arrivals("arrivals, buffer of %d" % n, some_arrivals(3), n)
         for k in (5, 6, 7):
             w_dkg("kind %d, buffer of %d" % (k, n), k, 7, 0, n)
     w_request("7 before 9", 0, 257, 0)
@@ -549,7 +566,7 @@ def main():
     r("nothing at all", b"")
     r("31 bytes", packet(5, [], ids=(7, 0, 0))[:31])
     r("33 bytes, no pairs", packet(5, [], ids=(7, 0, 0)) + b"\0")
-    for k in (0, 8, 32, 33, 34, 255):
+    for k in (0, 8, 32, 33, 34, 35, 255):
         r("kind %d" % k, packet(k, []))
     good = {1: packet(1, [hello, b""], 0, 0, (1, 2, 3)), 2: response(), 3: packet(3, [hello, b"", response()], 0, 0, (1, 2, 3)), 4: packet(4, [share(1, [2])], 0, 1, (1, 2, 3)), 5: packet(5, [], ids=(7, 0, 0)), 6: packet(6, [], signer=4, ids=(7, 0, 0)), 7: packet(7, [], ids=(7, 0, 0))}
     for k, s in good.items():
@@ -636,7 +653,7 @@ def main():
         told("no token %s" % token, "00 " + token + " 00")
     told("the first fault is told", "1:256 zz 32769*00")
     told("the first fault is told, another first", "zz 1:256 32769*00")
-    for letter in "NSJTI567":
+    for letter in "NSJTIA567":
         line("%s letter %s, buffer of 19,241 | 00 2:19241" % (letter, letter), "letter %s, buffer of 19,241: not run: no buffer is longer than 19240 bytes" % letter)
     for letter in "24":
         line("%s letter %s, buffer of 19,241 | 2:19241" % (letter, letter), "letter %s, buffer of 19,241: not run: no buffer is longer than 19240 bytes" % letter)
@@ -647,7 +664,7 @@ def main():
     line("M to state 15 | 00 00 00 0f 00 00", "to state 15: not run: no state is above 14")
     line("M of type 4 | 0b 04 00 0c 00 00", "of type 4: not run: no signature type is above 3")
     line("M to type 4 | 0b 00 00 0c 04 00", "to type 4: not run: no signature type is above 3")
-    for letter in "XrA89":
+    for letter in "XrB89":
         line("%s letter %s | 00" % (letter, letter), "letter %s: not run: no case has this letter" % letter)
     for n in (8192, 8193):
         head = "R line of %d bytes |" % n

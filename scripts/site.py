@@ -1,10 +1,11 @@
 #!/usr/bin/env python3
 """Writes crates/site/stdin and crates/site/stdout: the calls of the host's test program for Site, and what it must print.
 
-The model (site_model.py) is written from document 01 and shares no code with the crates. Run from the repository's root; both files are
-committed, so nothing needs this script to pass.
+The model (site_model.py) is written from documents 01 and 02 and shares no code with the crates. Run from the repository's root; both
+files are committed, so nothing needs this script to pass.
 """
 import random
+import re
 
 from bench import G, STATES, le, num, packet, response, share
 from site_model import PAIR, U64, WORKED, ZERO, Site, configured
@@ -122,6 +123,7 @@ def limits(s):
     s.results("results are not asked 7", 8, [0])
     s.move("the move question is not asked 7", "NonceRequest")
     s.aggregated("the aggregator's answer is asked 6", 1)
+    s.arrivals("the query of arrivals")
     s.reset("reset is not asked 7")
     s.lend("19,232 lent")
     s.start("start", 100, b"a")
@@ -137,6 +139,7 @@ def limits(s):
     s.timeout("process_timeout", 100)
     s.aggregated("aggregator's answer", 1)
     s.reset("reset")
+    s.arrivals("the query of arrivals")
     s.lend("nothing lent", 0, 0)
     s.timeout("4 before 7", 100)
     s.lend("all lent")
@@ -182,6 +185,7 @@ def uncommissioned(s):
     s.timeout("process_timeout", 100)
     s.aggregated("aggregator's answer", 1)
     s.reset("reset")
+    s.arrivals("the query of arrivals")
 
 
 def packets(s):
@@ -307,6 +311,7 @@ def questions(s):
     s.process("process", 200, s.shares(0))
     s.process_message("process_message", 200, b"")
     s.timeout("process_timeout", 200)
+    s.arrivals("the query of arrivals")
     s.lend("19,231 lent: 5 before 7", room=19231)
     s.timeout("process_timeout", 200)
     s.lend("all lent")
@@ -537,6 +542,244 @@ def marks(s):
     s.aggregated("failed", 0)
 
 
+def came(s, *calls, message=b"a"):
+    """Nonce responses: signer and clock reading of each."""
+    for i, clock in calls:
+        s.process("%d answers '%s' at %d" % (i, message.decode(), clock), clock, s.answers(i, message))
+
+
+def arrivals_told(s):
+    """02, e): responder ids ascending, and their readings, eight bytes each."""
+    s.ready("arrivals: ids ascend, each with its reading")
+    s.arrivals("commissioned, no round: 48 bytes")
+    s.start("start", 100, b"a")
+    s.arrivals("nobody answered: 48 bytes")
+    came(s, (2, 101))
+    s.arrivals("2: 60 bytes")
+    came(s, (0, 103))
+    s.arrivals("0 and 2: 72 bytes")
+    s.ready("arrivals: the reading is the call's, whatever the start's", clock=100)
+    came(s, (2, 90))
+    s.arrivals("90, behind the start")
+    s.process_message("0 answers at 2^64 - 1", U64 - 1, s.answers(0))
+    s.arrivals("the greatest reading")
+    s.ready("arrivals: eight different bytes, and the smallest reading", configured(WORKED["signers"], timeouts=(None,) * 5), 100)
+    came(s, (0, 0x0102030405060708), (2, 0))
+    s.arrivals("both")
+    s.ready("arrivals: all readings alike", clock=100)
+    came(s, (0, 101), (2, 101))
+    s.arrivals("both at 101")
+    ids = [70, 3, 2 ** 32 - 1, 0, 256, 65536, 9, 2 ** 24, 1, 8]
+    s.ready("arrivals: ten signers, listed in no order", configured([(i, [n]) for n, i in enumerate(ids)], threshold=10), 100)
+    for n, i in enumerate(ids[::-1][:9]):
+        came(s, (i, 101 + n % 4))
+    s.arrivals("nine: 156 bytes")
+    came(s, (ids[0], 110))
+    s.arrivals("ten: 168 bytes")
+
+
+def arrivals_recorded(s):
+    """What is recorded has a reading, the first one of each signer; what is not recorded has none."""
+    s.ready("arrivals: a second response leaves the first reading", clock=100)
+    came(s, (2, 101), (2, 102))
+    s.process_message("2 answers again, other nonces", 103, s.answers(2, nonces=[POINT + POINT]))
+    s.arrivals("2 at 101")
+    s.ready("arrivals: late by process_message is recorded, late by process is not", clock=100)
+    s.process_message("2 answers at 111", 111, s.answers(2))
+    s.process("0 answers at 112: late", 112, s.answers(0))
+    s.arrivals("2 at 111; the query tests no timeout")
+    s.timeout("the timeout still fires", 113)
+    s.arrivals("2 at 111 still")
+    s.process_message("0 answers at 114", 114, s.answers(0))
+    s.arrivals("0 at 114, 2 at 111")
+    s.ready("arrivals: what is not recorded has no reading", dict(WORKED, verify=1), 100)
+    s.process("13", 101, s.answers(0))
+    s.key("coordinator key held", 0, 1)
+    s.process("14", 101, s.answers(0), 0)
+    for at, n in enumerate((16, 17, 18)):
+        s.process("%d" % n, 101, s.answers(0, ids=tuple(x + (j == at) for j, x in enumerate(s.ids()))))
+    s.process("D = G", 101, s.answers(0, nonces=[G + POINT]))
+    s.process("1 lists 2", 101, s.answers(1, keys=[2]))
+    s.process("8", 101, s.answers(0)[:-1])
+    s.arrivals("nobody")
+    came(s, (0, 104))
+    s.process("0 shares while nonces are gathered", 105, s.shares(0))
+    s.arrivals("0 at 104")
+    s.ready("arrivals: key generation not ended, no key set, not configured", configured(WORKED["signers"] + [(3, None)], 4))
+    s.results("0 and 3 ended", 7, [0, 3])
+    s.start("start", 100, b"a")
+    came(s, (2, 101), (0, 102), (3, 103), (9, 104))
+    s.arrivals("0 at 102")
+
+
+def arrivals_current(s):
+    """The query tells of the current message alone."""
+    s.ready("arrivals: the answered message replaces the current one", clock=100)
+    came(s, (2, 101))
+    came(s, (0, 102), message=b"b")
+    s.arrivals("a: 2 at 101")
+    came(s, (1, 103), message=b"b")
+    s.arrivals("b: 0 at 102, 1 at 103")
+    s.ready("arrivals: a start refused with 11 leaves its message", clock=100)
+    came(s, (2, 101), message=b"b")
+    came(s, (0, 102), (1, 103))
+    s.arrivals("a: 0 at 102, 1 at 103")
+    s.start("11, message b", 104, b"b", 1)
+    s.arrivals("b: 2 at 101")
+    s.start("11, a message without a record", 105, b"z", 1)
+    s.arrivals("nobody")
+    s.start("11, message a", 106, b"a", 1)
+    s.arrivals("a: 0 at 102, 1 at 103")
+    s.ready("arrivals: a message without a record is answered after 11", clock=100)
+    came(s, (2, 101))
+    s.start("11, message z", 102, b"z", sign=1)
+    s.arrivals("nobody")
+    came(s, (0, 103), message=b"z")
+    s.arrivals("z: 0 at 103")
+    texts = [bytes(256), bytes(255) + b"\1", bytes(255), b""]
+    s.ready("arrivals: four messages that differ little, a fifth is 19", clock=100, message=texts[0])
+    for n, text in enumerate(texts + [bytes(254)]):
+        s.process("2 answers the message of %d bytes" % len(text), 101 + n, s.answers(2, text))
+    for n, text in enumerate(texts[::-1] + [bytes(254)]):
+        s.start("11, the message of %d bytes" % len(text), 106, text, 1)
+        s.arrivals("its reading" if n < 4 else "nobody")
+    s.ready("arrivals: 10 in NonceGather keeps the record, its reading and the message", clock=100)
+    came(s, (0, 101), message=b"b")
+    s.key("group key cleared", 1, 0)
+    came(s, (1, 103), message=b"b")
+    s.arrivals("b: 0 at 101, 1 at 103, no group key held")
+
+
+def arrivals_kept(s):
+    """Readings stay as long as their records."""
+    s.to_shares("arrivals: kept while shares are gathered, and after InsufficientSigners", signers=())
+    came(s, (0, 102), (1, 104))
+    s.process("0 shares", 105, s.shares(0))
+    s.process("0 answers again", 106, s.answers(0))
+    s.arrivals("both")
+    s.timeout("late: 1 is struck, too few", 115)
+    s.arrivals("both, 1 struck")
+    s.ready("arrivals: kept after 22, failure and success, in Idle too", clock=100)
+    came(s, (0, 101), (1, 103))
+    s.process("1 shares key 2: 22", 104, s.shares(1, [2]))
+    s.arrivals("both after 22")
+    s.process("0 shares: a job", 104, s.shares(0))
+    s.arrivals("a job is out: 5")
+    s.aggregated("failed", 0)
+    s.arrivals("both after 23")
+    s.to_shares("arrivals: success")
+    for i in (0, 1):
+        s.process("%d shares" % i, 103, s.shares(i))
+    s.aggregated("success", 1)
+    s.arrivals("Idle: both")
+    s.results("results", 8, [2])
+    s.key("group key cleared", 1, 0)
+    s.start("10", 104, b"z")
+    s.process("an Idle request: 10", 105, s.request(b"z", 9, 9))
+    s.process("an Idle request with the current sign id", 106, s.request(b"z", 1, 9))
+    s.process("DkgBegin with another dkg id: 15", 107, packet(5, [], ids=(9, 0, 0)))
+    s.move("move question", "NonceRequest")
+    s.timeout("no timeout", 999)
+    s.arrivals("Idle: both, no key held")
+
+
+def arrivals_cleared(s):
+    """A nonce request, a reset and a commissioning clear the readings with their records."""
+    s.to_shares("arrivals: a retry clears them")
+    s.process("1 shares", 103, s.shares(1))
+    s.timeout("late: 0 is struck, retry", 113)
+    s.arrivals("nobody")
+    came(s, (0, 114), (2, 115))
+    s.arrivals("2 at 115; 0 is struck")
+    s.to_shares("arrivals: a start while shares are gathered clears them")
+    s.start("the same message", 103, b"a")
+    s.arrivals("nobody")
+    came(s, (2, 104), message=b"b")
+    s.arrivals("nobody: b is not current")
+    came(s, (1, 105))
+    s.arrivals("1 at 105")
+    for label, begin in (("a start", lambda: s.start("the same message", 104, b"a")),
+                         ("an Idle request", lambda: s.process("the same message", 104, s.request(b"a", s.c.sign + 8, 9)))):
+        s.to_shares("arrivals: success, then %s clears them" % label)
+        for i in (0, 1):
+            s.process("%d shares" % i, 103, s.shares(i))
+        s.aggregated("success", 1)
+        begin()
+        s.arrivals("nobody")
+        came(s, (2, 106))
+        s.arrivals("2 at 106")
+        s.reset("reset")
+        s.arrivals("nobody after the reset")
+        begin()
+        s.arrivals("nobody")
+    s.to_shares("arrivals: commissioning")
+    s.arrivals("both")
+    s.commission("commissioned", WORKED)
+    s.arrivals("nobody")
+    s.to_shares("arrivals: a refused commissioning")
+    s.commission("3", configured([(0, [1, 2])], 1))
+    s.arrivals("4")
+
+
+def arrivals_asked(s):
+    """The query passes the checks 4, 5 and 7."""
+    s.ready("arrivals: buffer of 19,232, 19,231 is 7; store of 52,223 is 4", clock=100)
+    came(s, (0, 101))
+    for store, room in ((52224, 19231), (52223, 19232), (52223, 0), (0, 0), (52224, 60), (52224, 0), (52224, 19232)):
+        s.lend("%d and %d lent" % (store, room), store, room)
+        s.arrivals("asked")
+    s.to_shares("arrivals: 4 before 5 before 7")
+    for i in (0, 1):
+        s.process("%d shares" % i, 103, s.shares(i))
+    for store, room in ((52224, 19232), (52224, 0), (52223, 0)):
+        s.lend("%d and %d lent" % (store, room), store, room)
+        s.arrivals("asked while a job is out")
+    s.lend("all lent")
+    s.reset("reset")
+    s.arrivals("nobody")
+    s.ready("arrivals: neither key nor verdict is asked for", dict(WORKED, verify=1), 100)
+    s.key("coordinator key held", 0, 1)
+    came(s, (2, 103))
+    for which in (0, 1):
+        s.key("a key cleared", which, 0)
+    s.arrivals("2 at 103")
+
+
+def whole_round(s, after):
+    """A round with a refused start, a retry, a failure and a success; `after` comes after each call."""
+    calls = [lambda: s.start("start", 100, b"a")]
+    for clock, (i, m) in enumerate([(0, b"b"), (2, b"a"), (2, b"a"), (0, b"a")], 101):
+        calls.append(lambda i=i, m=m, clock=clock: s.process("%d answers" % i, clock, s.answers(i, m)))
+    calls += [lambda: s.timeout("no timeout", 110), lambda: s.process("1 answers", 110, s.answers(1)),
+              lambda: s.start("11", 111, b"a", 1, sign=1), lambda: s.process("0 shares", 112, s.shares(0)),
+              lambda: s.process("1 shares", 113, s.shares(1)), lambda: s.move("move question", "NonceRequest"),
+              lambda: s.timeout("late: 2 is struck, retry", 121), lambda: s.process("2 answers", 122, s.answers(2))]
+    for clock, ok in ((123, 0), (140, 1)):
+        for i in (1, 0):
+            calls.append(lambda i=i, clock=clock: s.process("%d answers" % i, clock + 1 - i, s.answers(i)))
+        for i in (0, 1):
+            calls.append(lambda i=i, clock=clock: s.process("%d shares" % i, clock + 2, s.shares(i)))
+        calls.append(lambda ok=ok: s.aggregated("aggregator's answer", ok))
+        if not ok:
+            calls.append(lambda: s.timeout("late: retry", 139))
+    calls += [lambda: s.results("results", 8, [0, 1]), lambda: s.process("an Idle request", 150, s.request(b"b", 9, 9)),
+              lambda: s.process("0 answers", 151, s.answers(0, b"b")), lambda: s.timeout("late", 161), lambda: s.reset("reset")]
+    for call in calls:
+        call()
+        after()
+
+
+def arrivals_unseen(s):
+    """The query changes nothing: a round with it after each call goes as it does without, but for the buffer's sums."""
+    runs = []
+    for label, asks in (("a round without the query of arrivals", False), ("the same round with one after each call", True)):
+        s.ready(label)
+        begun = len(s.expected)
+        whole_round(s, (lambda: s.arrivals("when")) if asks else lambda: None)
+        runs.append([re.sub(", sum [0-9a-f]{8}", "", x) for x in s.expected[begun:] if not x.startswith("when: ")])
+    assert runs[0] == runs[1], "the query changed something"
+
+
 def shift(s):
     """Several rounds by one coordinator."""
     four = [(0, [1, 2]), (1, [3]), (2, [4]), (3, [5])]
@@ -627,8 +870,8 @@ def refused_lines(s):
 
 
 def chance(s, seed, calls):
-    """Calls drawn at random, most of them such as a round has; the same on every run."""
-    r = random.Random(seed)
+    """Calls drawn at random, most of them such as a round has, and queries between them; the same on every run."""
+    r, asks = random.Random(seed), random.Random(1000 + seed)
     signers = sorted(r.sample(range(12), r.randrange(2, 6)))
     sets = [(i, None if r.random() < 0.05 else r.sample(range(1, 9), r.choice((0, 1, 1, 2, 2, 3)))) for i in signers]
     total = sum(len(k or ()) for _, k in sets)
@@ -641,6 +884,8 @@ def chance(s, seed, calls):
     for n in range(calls):
         clock += r.choice((0, 0, 0, 1, 1, 2, 3, 3, 40 if r.random() < 0.2 else 0))
         last = drawn(s, r, "%d" % n, clock, config, last)
+        if asks.random() < 0.25:
+            s.arrivals("%d, arrivals" % n)
 
 
 MESSAGES = [b"a", b"b", b"", b"cc", b"ddd"]
@@ -718,6 +963,8 @@ def main():
     for seed in range(40):
         chance(s, seed, 40)
     marks(s)
+    for cases in (arrivals_told, arrivals_recorded, arrivals_current, arrivals_kept, arrivals_cleared, arrivals_asked, arrivals_unseen):
+        cases(s)
     s.heading("a last line without a newline")
     s.reset("reset")
     text = "\n".join(s.script)

@@ -14,8 +14,8 @@ def parts_of(s):
     return [s[num(s, 32 + 8 * i, 4):num(s, 32 + 8 * i, 4) + num(s, 36 + 8 * i, 4)] for i in range(num(s, 2, 2))]
 
 
-def numbers(s):
-    return [num(s, i, 4) for i in range(0, len(s) - 3, 4)]
+def numbers(s, width=4):
+    return [num(s, i, width) for i in range(0, len(s) - width + 1, width)]
 
 
 def listed(ids):
@@ -38,6 +38,8 @@ def packet_text(s):
         return "nonce timeout, waiters%s, struck%s" % (listed(numbers(parts[0])), listed(numbers(parts[1])))
     if kind == 34:
         return "insufficient signers, struck%s" % listed(numbers(parts[0]))
+    if kind == 35:
+        return "arrivals, signers%s, readings%s" % (listed(numbers(parts[0])), listed(numbers(parts[1], 8)))
     text = {1: "nonce request", 3: "share request", 32: "job"}[kind] + ids_text(h["ids"])
     text += ", type %d, message %s, root %s" % (h["type"], hexed(parts[0]), hexed(parts[1]))
     if kind == 3:
@@ -151,3 +153,7 @@ def aggregated_line(label, ok):
 
 def reset_line(label):
     return line("Z", label)
+
+
+def arrivals_line(label):
+    return line("W", label)

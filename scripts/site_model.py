@@ -1,6 +1,7 @@
 """A model of document 01's calls on the coordinator, with the script's line of each call and the line that the test program must print.
 
-It is written from document 01 ("The questions, in order", "Corners", "Packet layout") and shares no code with the crates.
+It is written from document 01 ("The questions, in order", "Corners", "Packet layout") and document 02 (c, the mark; e, the arrivals), and
+shares no code with the crates.
 """
 import site_format as form
 from bench import STATES, fields, laid_out, le, may_move, packet, response, share, valid, within
@@ -36,7 +37,7 @@ class Coordinator:
         self.dkg = self.sign = self.iteration = 0
         self.state, self.type, self.root = "Idle", None, ZERO
         self.message = b""
-        self.records = []  # a message's record: message, responses by signer, waiters
+        self.records = []  # a message's record: message, responses and their clock readings by signer, waiters
         self.shares = {}
         self.ended, self.struck = set(), set()
         self.nonce_start = self.sign_start = None
@@ -150,11 +151,11 @@ class Coordinator:
         if r is None:
             if len(self.records) >= 4:
                 return error(19)
-            r = dict(message=parts[0], responses={}, waiters=set())
+            r = dict(message=parts[0], responses={}, readings={}, waiters=set())
             self.records.append(r)
         if i in r["responses"]:
             return NOTHING
-        r["responses"][i] = s
+        r["responses"][i], r["readings"][i] = s, clock
         r["waiters"].add(i)
         if len(set().union(*(self.keys[j] for j in r["responses"]))) < self.sign_threshold:
             return NOTHING
@@ -191,6 +192,14 @@ class Coordinator:
         job = self.head(32, [b"".join(p[1] for p in lists), b"".join(p[2] for p in lists)] + shares)
         keys = form.numbers(b"".join(p[1] for p in lists))
         return ("job", job, all(j in self.shares for j in responders) and len(set(keys)) == len(keys))
+
+    # --- the query
+
+    def arrivals(self):
+        """02, e): when each signer answered the current message."""
+        r = self.record(self.message)
+        came = sorted(r["readings"].items()) if r else []
+        return ("written", packet(35, [ids_bytes(i for i, _ in came), b"".join(le(8, clock) for _, clock in came)]))
 
 
 class Site:
@@ -325,6 +334,10 @@ class Site:
             c.move("Idle")
             c.records, c.shares, c.ended, c.nonce_start, c.sign_start, c.job = [], {}, set(), None, None, False
         return self.told(form.reset_line(label), label, error(n) if n else NOTHING)
+
+    def arrivals(self, label):
+        n = self.before(room=True)
+        return self.told(form.arrivals_line(label), label, error(n) if n else self.c.arrivals())
 
     def raw(self, line, label, text):
         """A line that is no call."""

@@ -106,6 +106,7 @@ static void group_key_missing(void) {
 }
 
 static void job_out(void) {
+    static packet told;
     sealed last;
     char event[128];
     begin("while a job is out every call but the answer to it and reset gets 5");
@@ -119,6 +120,7 @@ static void job_out(void) {
     expect(&s, "a job", is(a, RC_JOB, 0));
     expect(&s, "packet", is(host_take(&s.host, s.clock, &last), RC_ERROR, RC_REFUSED_JOB_OUT));
     expect(&s, "timeout", is(host_timeout(&s.host, s.clock), RC_ERROR, RC_REFUSED_JOB_OUT));
+    expect(&s, "who has answered", is(host_arrivals(&s.host, &told), RC_ERROR, RC_REFUSED_JOB_OUT));
     expect(&s, "start", is(start_unasked(&s, RC_SCHNORR, "b", no_root), RC_ERROR, RC_REFUSED_JOB_OUT));
     expect(&s, "held key", is(rc_set_group_key(HELD, 1), RC_ERROR, RC_REFUSED_JOB_OUT));
     expect(&s, "not Idle", !host_idle(&s.host));

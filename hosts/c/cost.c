@@ -58,6 +58,7 @@ static void can_move_to(void) { answer = rc_can_move_to(STATE, STORE, 1, RC_FROS
 static void start(void) { answer = rc_start_signing_round(STATE, STORE, OUT, NOW, message, sizeof message, RC_FROST, NULL, 0, 1, SIGN); }
 static void process(void) { answer = rc_process(STATE, STORE, OUT, NOW, 1, given.bytes, given.length); }
 static void process_timeout(void) { answer = rc_process_timeout(STATE, STORE, OUT, NOW); }
+static void tell_arrivals(void) { answer = rc_tell_arrivals(STATE, STORE, OUT); }
 static void aggregated(void) { answer = rc_aggregated(STATE, STORE, 1); }
 static void reset(void) { answer = rc_reset(STATE, STORE); }
 
@@ -149,6 +150,7 @@ static void gather(const group *g) {
     cost(g->told_last, g, "the response that completes the threshold", process, RC_PACKET, 0);
     memcpy(share_request.bytes, out, sizeof out);
     share_request.length = (size_t)answer.length;
+    cost(g->told & ROW, g, "arrivals of ten", tell_arrivals, RC_RESULT, 0);
     for (uint32_t i = 0; i < LAST; i++) {
         give_share(g, i);
         cost(i == SIXTH ? g->told : others, g, i == SIXTH ? "a share (the sixth)" : "a share", process, RC_NOTHING, 0);

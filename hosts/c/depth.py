@@ -18,9 +18,9 @@ ADDRESS = 8
 ANSWER = 64
 # Structs that are passed by value lie on the stack, above the call; so do plain arguments from the seventh on, 8 bytes each.
 BY_VALUE = {"rc_commission": 1080, "rc_write_nonce_request": 64, "rc_write_signature_share_request": 64 + 808, "rc_write_job": 64 + 728,
-            "rc_write_nonce_timeout": 96, "rc_write_insufficient_signers": 48, "rc_write_nonce_response": 32 + 16,
-            "rc_write_signature_share_response": 32 + 32, "rc_start_signing_round": 72, "rc_process": 40, "rc_process_message": 40,
-            "rc_process_timeout": 16, "rc_can_move_to": 24, "rc_take_results": 16}
+            "rc_write_nonce_timeout": 96, "rc_write_insufficient_signers": 48, "rc_write_arrivals": 168,
+            "rc_write_nonce_response": 32 + 16, "rc_write_signature_share_response": 32 + 32, "rc_start_signing_round": 72,
+            "rc_process": 40, "rc_process_message": 40, "rc_process_timeout": 16, "rc_tell_arrivals": 8, "rc_can_move_to": 24, "rc_take_results": 16}
 # Which macro of the header says how much each call needs: readers and writers have RC_STACK_PACKET, all other calls RC_STACK_CALL.
 MACROS = {"rc_process": "PROCESS", "rc_process_message": "PROCESS", "rc_commission": "COMMISSION"}
 OF_PACKETS = ("rc_read_packet", "rc_packet_part", "rc_version", "rc_write_")

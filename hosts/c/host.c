@@ -108,6 +108,12 @@ rc_answer host_take_untimed(host *h, uint64_t clock, const sealed *s) {
 
 rc_answer host_timeout(host *h, uint64_t clock) { return sealing(h, rc_process_timeout(STATE, STORE, OUT, clock)); }
 
+rc_answer host_arrivals(const host *h, packet *told) {
+    const rc_answer a = rc_tell_arrivals(STATE, STORE, told->bytes, sizeof told->bytes);
+    told->length = (size_t)a.length;
+    return a;
+}
+
 rc_answer host_do_job(host *h, span job, int whole, aggregation *a) {
     *a = aggregate(h->group, job, whole);
     return rc_aggregated(STATE, STORE, a->verdict == AGGREGATED);

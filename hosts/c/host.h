@@ -38,6 +38,8 @@ rc_answer host_start(host *h, uint64_t clock, uint8_t type, span message, span r
 rc_answer host_take(host *h, uint64_t clock, const sealed *s);
 rc_answer host_take_untimed(host *h, uint64_t clock, const sealed *s);
 rc_answer host_timeout(host *h, uint64_t clock);
+/* Who has answered the current message, and when: kind 35, in a packet of the caller's. The host is only read. */
+rc_answer host_arrivals(const host *h, packet *told);
 /* Does the job that a call answered (its bytes and its mark), and says to the library whether there is a signature now. */
 rc_answer host_do_job(host *h, span job, int whole, aggregation *a);
 /* Gives up a round. The library then knows nobody who ended key generation, so it is told again. */

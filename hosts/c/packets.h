@@ -1,6 +1,6 @@
 /*
  * Packets, their bytes and where their parts lie. What comes from others is read by the library (rc_read_packet, rc_packet_part); the
- * kinds that it only writes (32 to 34) are read here, by their pairs, as the header says.
+ * kinds that it only writes (32 to 35) are read here, by their pairs, as the header says.
  */
 #ifndef HOST_PACKETS_H
 #define HOST_PACKETS_H
@@ -34,7 +34,7 @@ int packet_written(packet *to, rc_written w);
 
 /* Part i of a packet of kinds 1 to 7: empty where the library takes no such packet, or it has no such part. */
 span packet_part(span whole, uint16_t i);
-/* Part i of what the library wrote, kinds 32 to 34: empty where there is none. */
+/* Part i of what the library wrote, kinds 32 to 35: empty where there is none. */
 span written_part(span whole, uint16_t i);
 uint16_t written_parts(span whole);
 

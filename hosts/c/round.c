@@ -143,6 +143,7 @@ static void silent_share(stage *s) {
     time_passes(s, stage_timeouts.shares - SECOND, "host: timeout? (signers 1 and 3 are waited for)", RC_NOTHING, 0);
     answers(s, "1", RC_NOTHING);
     time_passes(s, 2 * SECOND, "host: timeout? (signer 3 is waited for)", RC_PACKET, 0);
+    operator_looks(s, "", "012");
     answers(s, "3012", RC_PACKET);
     late_share(s, &earlier);
     answers(s, "012", RC_JOB);
@@ -155,8 +156,12 @@ static void late_nonces(stage *s) {
     static const uint8_t answered[] = {0, 0, 0, 0, 1, 0, 0, 0}, left_out[] = {3, 0, 0, 0};
     heading(s, "6. Signer 2 gives no nonces in time: a result says so, nobody is left out for it, and the round can go on.");
     start(s, RC_SCHNORR, "payout 6: 4.10 to Gorse", no_root);
-    answers(s, "01", RC_NOTHING);
-    s->clock += stage_timeouts.nonces + SECOND;
+    answers(s, "0", RC_NOTHING);
+    s->clock += 2 * SECOND;
+    answers(s, "1", RC_NOTHING);
+    s->clock += 2 * SECOND;
+    operator_looks(s, "01", "2");
+    s->clock += stage_timeouts.nonces;
     rc_answer a = host_timeout(&s->host, s->clock);
     follow(s, "host: timeout?", &a, RC_RESULT, 0);
     const span out = host_out(&s->host, &a);
@@ -168,6 +173,7 @@ static void late_nonces(stage *s) {
     follow(s, "signer 2: nonces, late, by rc_process: dropped", &a, RC_RESULT, 0);
     a = host_take_untimed(&s->host, s->clock, &late);
     follow(s, "signer 2: the same by rc_process_message", &a, RC_PACKET, 0);
+    operator_looks(s, "012", "");
     answers(s, "012", RC_JOB);
     verify(s, RC_SCHNORR, "payout 6: 4.10 to Gorse", no_root);
 }
@@ -175,7 +181,9 @@ static void late_nonces(stage *s) {
 static void nobody_answers(stage *s) {
     heading(s, "7. Nobody gives nonces; the host gives the round up.");
     start(s, RC_SCHNORR, "payout 7: 66.00 to Hazel", no_root);
-    time_passes(s, stage_timeouts.nonces + SECOND, "host: timeout?", RC_ERROR, RC_REFUSED_NO_RECORD);
+    s->clock += stage_timeouts.nonces - SECOND;
+    operator_looks(s, "", "012");
+    time_passes(s, 2 * SECOND, "host: timeout?", RC_ERROR, RC_REFUSED_NO_RECORD);
     const int idle = host_give_up(&s->host);
     expect(s, "given up", idle);
     tell(s, "host: reset, and key generation's results again: %s", idle ? "taken" : "refused");

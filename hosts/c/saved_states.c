@@ -105,6 +105,11 @@ static rc_written nonce_request(packet *p) {
 
 static rc_response_head head_of(uint32_t signer) { return (rc_response_head){dkg_id, sign_id, iteration, id_of(signer), 0}; }
 
+/* Each response at a reading of its own, the last one at sign_start. */
+static uint64_t came_at(uint32_t signer, uint32_t record) {
+    return sign_start - 0x101 * (uint64_t)(RECORDS * SIGNERS - 1 - (record * SIGNERS + signer));
+}
+
 /* With another number of nonces than of keys, whoever responds. */
 static void respond(uint32_t signer, uint32_t record, uint32_t class_) {
     static packet p;
@@ -113,7 +118,7 @@ static void respond(uint32_t signer, uint32_t record, uint32_t class_) {
     put_keys(keys, signer);
     const rc_written w = rc_write_nonce_response(p.bytes, sizeof p.bytes, head_of(signer), bytes, message_lengths[record], keys,
                                                  key_count(signer), bytes, nonces);
-    process("nonces", sign_start, &p, w, class_);
+    process("nonces", came_at(signer, record), &p, w, class_);
 }
 
 /* Shares for one key, two, three and so on; of the last signer, one for each of its sixteen keys. */
@@ -198,8 +203,8 @@ static void compare(const stored *f) {
 /* --- each call on a stored file */
 
 static const char *const calls[] = {
-    "rc_set_coordinator_key", "rc_set_group_key",   "rc_take_results", "rc_start_signing_round", "rc_process",
-    "rc_process_message",     "rc_process_timeout", "rc_aggregated",   "rc_reset",               "rc_can_move_to",
+    "rc_set_coordinator_key", "rc_set_group_key", "rc_take_results", "rc_start_signing_round", "rc_process",     "rc_process_message",
+    "rc_process_timeout",     "rc_tell_arrivals", "rc_aggregated",   "rc_reset",               "rc_can_move_to",
 };
 enum { CALLS = sizeof calls / sizeof calls[0] };
 
@@ -217,8 +222,9 @@ static rc_answer make(int call, uint8_t *lent, size_t length) {
     case 4: return rc_process(BOTH, OUT, sign_start, 1, p.bytes, p.length);
     case 5: return rc_process_message(BOTH, OUT, sign_start, 1, p.bytes, p.length);
     case 6: return rc_process_timeout(BOTH, OUT, sign_start);
-    case 7: return rc_aggregated(BOTH, 1);
-    case 8: return rc_reset(BOTH);
+    case 7: return rc_tell_arrivals(BOTH, OUT);
+    case 8: return rc_aggregated(BOTH, 1);
+    case 9: return rc_reset(BOTH);
     default: return rc_can_move_to(BOTH, 11, RC_SCHNORR, NULL, 0);
     }
 #undef BOTH

@@ -26,6 +26,7 @@ struct {
     rc_responses responses;
     rc_job_places job;
     rc_signer_ids ids;
+    rc_arrivals arrivals;
     rc_response_head response;
     size_t key_count;
     uint16_t part;
@@ -56,6 +57,7 @@ static void start(void) { answer = rc_start_signing_round(STATE, STORE, OUT, giv
 static void process(void) { answer = rc_process(STATE, STORE, OUT, given.clock, given.flag, PACKET); }
 static void process_message(void) { answer = rc_process_message(STATE, STORE, OUT, given.clock, given.flag, PACKET); }
 static void process_timeout(void) { answer = rc_process_timeout(STATE, STORE, OUT, given.clock); }
+static void tell_arrivals(void) { answer = rc_tell_arrivals(STATE, STORE, OUT); }
 static void aggregated(void) { answer = rc_aggregated(STATE, STORE, given.flag); }
 static void reset(void) { answer = rc_reset(STATE, STORE); }
 static void can_move_to(void) { answer = rc_can_move_to(STATE, STORE, given.next, given.type, ROOT); }
@@ -71,6 +73,7 @@ static void write_dkg_signer(void) { written = rc_write_dkg_signer(OUT, 3, given
 static void write_dkg_coordinator(void) { written = rc_write_dkg_coordinator(OUT, given.dkg_id); }
 static void write_nonce_timeout(void) { written = rc_write_nonce_timeout(OUT, given.ids, given.ids); }
 static void write_insufficient_signers(void) { written = rc_write_insufficient_signers(OUT, given.ids); }
+static void write_arrivals(void) { written = rc_write_arrivals(OUT, given.arrivals); }
 static void write_nonce_response(void) {
     written = rc_write_nonce_response(OUT, given.response, MESSAGE, ones, given.key_count, bytes, sizeof bytes);
 }
@@ -86,8 +89,9 @@ typedef struct call {
     int times;
 } call;
 
-enum { COMMISSION, COORDINATOR_KEY, GROUP_KEY, RESULTS, START, PROCESS, PROCESS_MESSAGE, TIMEOUT, AGGREGATED, RESET, MOVE, IDLE, READ, PART, VERSION,
-       NONCE_REQUEST, SHARE_REQUEST, JOB, DKG_BEGIN, DKG_SIGNER, DKG_COORDINATOR, NONCE_TIMEOUT, INSUFFICIENT, NONCE_RESPONSE, SHARE_RESPONSE, CALLS };
+enum { COMMISSION, COORDINATOR_KEY, GROUP_KEY, RESULTS, START, PROCESS, PROCESS_MESSAGE, TIMEOUT, TELL_ARRIVALS, AGGREGATED, RESET, MOVE, IDLE, READ, PART,
+       VERSION, NONCE_REQUEST, SHARE_REQUEST, JOB, DKG_BEGIN, DKG_SIGNER, DKG_COORDINATOR, NONCE_TIMEOUT, INSUFFICIENT, ARRIVALS, NONCE_RESPONSE,
+       SHARE_RESPONSE, CALLS };
 
 static call calls[CALLS] = {
     [COMMISSION] = {"rc_commission", RC_STACK_COMMISSION, commission, 0, 0},
@@ -98,6 +102,7 @@ static call calls[CALLS] = {
     [PROCESS] = {"rc_process", RC_STACK_PROCESS, process, 0, 0},
     [PROCESS_MESSAGE] = {"rc_process_message", RC_STACK_PROCESS, process_message, 0, 0},
     [TIMEOUT] = {"rc_process_timeout", RC_STACK_CALL, process_timeout, 0, 0},
+    [TELL_ARRIVALS] = {"rc_tell_arrivals", RC_STACK_CALL, tell_arrivals, 0, 0},
     [AGGREGATED] = {"rc_aggregated", RC_STACK_CALL, aggregated, 0, 0},
     [RESET] = {"rc_reset", RC_STACK_CALL, reset, 0, 0},
     [MOVE] = {"rc_can_move_to", RC_STACK_CALL, can_move_to, 0, 0},
@@ -113,6 +118,7 @@ static call calls[CALLS] = {
     [DKG_COORDINATOR] = {"rc_write_dkg_coordinator", RC_STACK_PACKET, write_dkg_coordinator, 0, 0},
     [NONCE_TIMEOUT] = {"rc_write_nonce_timeout", RC_STACK_PACKET, write_nonce_timeout, 0, 0},
     [INSUFFICIENT] = {"rc_write_insufficient_signers", RC_STACK_PACKET, write_insufficient_signers, 0, 0},
+    [ARRIVALS] = {"rc_write_arrivals", RC_STACK_PACKET, write_arrivals, 0, 0},
     [NONCE_RESPONSE] = {"rc_write_nonce_response", RC_STACK_PACKET, write_nonce_response, 0, 0},
     [SHARE_RESPONSE] = {"rc_write_signature_share_response", RC_STACK_PACKET, write_share_response, 0, 0},
 };
@@ -140,6 +146,12 @@ static void answers(int which, uint32_t class_, uint32_t number) {
 
 static void refuses(int which, uint32_t number) { answers(which, RC_ERROR, number); }
 static void takes(int which) { answers(which, RC_NOTHING, 0); }
+
+/* The query names so many signers. */
+static void tells(uint64_t count) {
+    answers(TELL_ARRIVALS, RC_RESULT, 0);
+    expect("kind 35, with so many signers", out[0] == RC_KIND_ARRIVALS && answer.length == 48 + 12 * count);
+}
 
 /* --- stories */
 
@@ -247,7 +259,7 @@ static void asked_first(int which) {
     given.store_length--;
     refuses(which, RC_REFUSED_STATE);
     given.store_length++;
-    if (which == START || which == PROCESS || which == PROCESS_MESSAGE || which == TIMEOUT) {
+    if (which >= START && which <= TELL_ARRIVALS) {
         given.out_length--;
         refuses(which, RC_REFUSED_ROOM);
     }
@@ -345,9 +357,13 @@ static void while_nonces_are_gathered(int entry) {
     takes(GROUP_KEY);
     given.flag = 1;
     for (uint32_t i = 0; i + 1 < SIGNERS; i++) {
+        tells(i);
         nonces(i, current, given.message);
         answers(entry, i + 2 < SIGNERS ? RC_NOTHING : RC_ERROR, i + 2 < SIGNERS ? 0 : RC_REFUSED_GROUP_KEY);
     }
+    nonces(SIGNERS - 1, current, given.message);
+    refuses(entry, RC_REFUSED_GROUP_KEY);
+    tells(SIGNERS);
 }
 
 static void while_shares_are_gathered(int entry, int ok) {
@@ -367,12 +383,14 @@ static void while_shares_are_gathered(int entry, int ok) {
         answers(entry, i + 2 < SIGNERS ? RC_NOTHING : RC_JOB, 0);
     }
     expect("the mark", answer.mark == (uint64_t)ok);
-    for (int which = COORDINATOR_KEY; which <= TIMEOUT; which++) refuses(which, RC_REFUSED_JOB_OUT);
+    for (int which = COORDINATOR_KEY; which <= TELL_ARRIVALS; which++) refuses(which, RC_REFUSED_JOB_OUT);
     refuses(MOVE, RC_REFUSED_JOB_OUT);
     make(IDLE);
     given.flag = (uint8_t)ok;
     answers(AGGREGATED, RC_RESULT, ok ? 0 : RC_REFUSED_AGGREGATION);
+    tells(SIGNERS - 1);
     takes(RESET);
+    tells(0);
 }
 
 /* A timeout, asked by a call or by a packet that comes late. */
@@ -433,13 +451,13 @@ static void reads(void) {
 static void writes(void) {
     good();
     given.head.signature_type = RC_TAPROOT_ROOT;
-    given.responses.count = given.job.count = given.ids.count = SIGNERS;
+    given.responses.count = given.job.count = given.ids.count = given.arrivals.count = SIGNERS;
     for (uint32_t i = 0; i < SIGNERS; i++) {
         const rc_place keys = {0, KEYS}, points = {0, KEYS};
         given.responses.places[i] = (rc_response){.signer_id = i, .message = {0, 8}, .key_ids = keys, .nonces = points};
         given.job.places[i] = (rc_job_place){keys, points, {0, KEYS}, 0, {1, 1, 1, 1, 1, 1, 1, 1, 1, 1, 1, 1, 1, 1, 1, 1}};
     }
-    for (int which = NONCE_REQUEST; which <= INSUFFICIENT; which++) {
+    for (int which = NONCE_REQUEST; which <= ARRIVALS; which++) {
         given.out_length = sizeof out;
         make(which);
         expect("a packet is written", written.refusal == 0);

@@ -1,5 +1,6 @@
 #include "stage.h"
 
+#include "waiting.h"
 #include "words.h"
 
 #include <stdarg.h>
@@ -57,7 +58,21 @@ void do_job(stage *s, const rc_answer *a, int success) {
 void follow(stage *s, const char *event, const rc_answer *a, uint32_t class_, uint32_t number) {
     tell_answer(s, event, a);
     expect(s, "another class or number was expected", a->class_ == class_ && a->number == number);
-    if (a->class_ == RC_PACKET) s->request = s->host.send;
+    if (a->class_ != RC_PACKET) return;
+    s->request = s->host.send;
+    if (packet_kind(span_of(&s->request.packet)) == RC_KIND_NONCE_REQUEST) s->asked = s->clock;
+}
+
+void operator_looks(stage *s, const char *answered, const char *missing) {
+    char words[1024], came[RC_SIGNER_LIMIT + 1] = "", waited[RC_SIGNER_LIMIT + 1] = "";
+    waiting w;
+    expect(s, "the library tells who has answered", find_waiting(&s->host, span_of(&s->request.packet), &w));
+    for (uint64_t i = 0; i < w.answered.count; i++) came[i] = (char)('0' + w.answered.arrivals[i].signer_id);
+    for (uint64_t i = 0; i < w.missing.count; i++) waited[i] = (char)('0' + w.missing.ids[i]);
+    expect(s, "who has answered", strcmp(came, answered) == 0);
+    expect(s, "who is waited for", strcmp(waited, missing) == 0);
+    waiting_words(words, sizeof words, &w, s->asked, s->clock);
+    tell(s, "operator: %s", words);
 }
 
 void start(stage *s, uint8_t type, const char *words, span root) {
@@ -111,7 +126,7 @@ void answers(stage *s, const char *ids, uint32_t last_class) {
 }
 
 int open_stage(stage *s, int quiet) {
-    s->clock = 0;
+    s->clock = s->asked = 0;
     s->quiet = quiet;
     s->failures = 0;
     s->first.packet.length = 0;

@@ -23,6 +23,7 @@ typedef struct stage {
     sealed first;   /* and its first */
     aggregation last;
     uint64_t clock;
+    uint64_t asked; /* its reading at the coordinator's last nonce request */
     int quiet;
     int failures;
 } stage;
@@ -42,6 +43,8 @@ void answer(stage *s, uint32_t id, uint32_t class_, uint32_t number);
 void answers(stage *s, const char *ids, uint32_t last_class);
 /* Only what a signer would answer: 1 where it answers. event says it in words. */
 int answer_of(stage *s, uint32_t id, sealed *answer, char *event, size_t room);
+/* An operator looks whom to call: by their digits, who has answered the request, and who is waited for. */
+void operator_looks(stage *s, const char *answered, const char *missing);
 /* What follows from an answer of the library's, and whether it is the expected one. */
 void follow(stage *s, const char *event, const rc_answer *a, uint32_t class_, uint32_t number);
 void do_job(stage *s, const rc_answer *a, int success);

@@ -1,6 +1,7 @@
 /*
  * Eight threads at once, each with buffers of its own and a stack of RC_STACK and a little for its own frames: rounds with a retry in them. All
- * threads make the same calls, so in the end all of them hold the same bytes. Nonces and shares are made up.
+ * threads make the same calls, so in the end all of them hold the same bytes. Then eight that ask one coordinator who has answered, each with
+ * an out of its own: state and store, which are only read, are the same for all. Nonces and shares are made up.
  */
 #include "packets.h"
 
@@ -8,13 +9,15 @@
 #include <stdio.h>
 #include <string.h>
 
-enum { THREADS = 8, ROUNDS = 200, SIGNERS = 3, DKG = 7, LATE = 10, OWN_FRAMES = 32 * 1024 };
+enum { THREADS = 8, ROUNDS = 200, QUERIES = 2000, SIGNERS = 3, DKG = 7, LATE = 10, OWN_FRAMES = 32 * 1024 };
 
 typedef struct buffers {
     uint8_t state[RC_STATE_LENGTH], store[RC_STORE_LENGTH], out[RC_ANSWER_LENGTH];
     packet packet;
     int failures;
 } buffers;
+
+static buffers all[THREADS];
 
 #define LENT d->state, sizeof d->state, d->store, sizeof d->store
 
@@ -34,7 +37,7 @@ static rc_config configuration(void) {
 
 static void expect(buffers *d, rc_answer a, uint32_t class_) { d->failures += a.class_ != class_ || a.number != 0; }
 
-/* A signer answers the request in out, or a later one of the same round. */
+/* A signer answers the request in out, or a later one of the same round. The clock is the signer's id. */
 static rc_answer respond(buffers *d, uint32_t signer, uint64_t iteration, int share) {
     static const uint8_t words[] = "payout 7";
     const rc_response_head head = {DKG, 1, iteration, signer, 0};
@@ -45,7 +48,7 @@ static rc_answer respond(buffers *d, uint32_t signer, uint64_t iteration, int sh
         share ? rc_write_signature_share_response(to, PACKET_LIMIT, head, &signer, 1, bytes, Z_LENGTH, &one, 1, &key, 1)
               : rc_write_nonce_response(to, PACKET_LIMIT, head, words, sizeof words, &key, 1, bytes, sizeof bytes);
     d->failures += !packet_written(&d->packet, w);
-    return rc_process_message(LENT, d->out, sizeof d->out, 0, 1, d->packet.bytes, d->packet.length);
+    return rc_process_message(LENT, d->out, sizeof d->out, signer, 1, d->packet.bytes, d->packet.length);
 }
 
 /* Signers 0 and 1 give nonces; 0 gives its share and 1 does not. Then the retry, without 1. */
@@ -61,7 +64,7 @@ static void round_with_a_retry(buffers *d) {
         expect(d, respond(d, 0, iteration, 0), RC_NOTHING);
         expect(d, respond(d, other, iteration, 0), RC_PACKET);
         expect(d, respond(d, 0, iteration, 1), RC_NOTHING);
-        if (iteration == 1) expect(d, rc_process_timeout(LENT, d->out, sizeof d->out, LATE + 1), RC_PACKET);
+        if (iteration == 1) expect(d, rc_process_timeout(LENT, d->out, sizeof d->out, 2 * LATE), RC_PACKET);
     }
     expect(d, respond(d, 2, 2, 1), RC_JOB);
     expect(d, rc_aggregated(LENT, 1), RC_RESULT);
@@ -72,18 +75,37 @@ static void *work(void *of) {
     return NULL;
 }
 
-int main(void) {
-    static buffers all[THREADS];
+/* Of the first coordinator: signers 0 and 2 have answered the retry, at 0 and at 2. */
+static void *ask(void *of) {
+    static const uint8_t arrivals[] = {RC_KIND_ARRIVALS, 0, 2, [32] = 48, [36] = 8, [40] = 56, [44] = 16, [52] = 2, [64] = 2, [71] = 0};
+    const buffers *first = &all[0];
+    buffers *d = of;
+    for (int i = 0; i < QUERIES; i++) {
+        memset(d->out, i, sizeof arrivals);
+        expect(d, rc_tell_arrivals(first->state, sizeof first->state, first->store, sizeof first->store, d->out, sizeof d->out), RC_RESULT);
+        d->failures += memcmp(d->out, arrivals, sizeof arrivals) != 0;
+    }
+    return NULL;
+}
+
+/* Each thread has its own buffers in hand. Afterwards all of them hold the same bytes. */
+static int at_once(const pthread_attr_t *small, void *(*begin)(void *)) {
     pthread_t threads[THREADS];
+    int begun = 0, failures = 0;
+    while (begun < THREADS && pthread_create(&threads[begun], small, begin, &all[begun]) == 0) begun++;
+    failures += begun != THREADS;
+    for (int i = 0; i < begun; i++) failures += pthread_join(threads[i], NULL) != 0;
+    for (int i = 0; i < THREADS; i++) failures += all[i].failures + (memcmp(&all[i], &all[0], sizeof all[0]) != 0);
+    return failures;
+}
+
+int main(void) {
     pthread_attr_t small;
     int failures = pthread_attr_init(&small) || pthread_attr_setstacksize(&small, RC_STACK + OWN_FRAMES);
-    for (int i = 0; i < THREADS; i++)
-        if (pthread_create(&threads[i], &small, work, &all[i]) != 0) return 2;
-    for (int i = 0; i < THREADS; i++) {
-        failures += pthread_join(threads[i], NULL) != 0;
-        failures += all[i].failures + (memcmp(&all[i], &all[0], sizeof all[0]) != 0);
-    }
+    failures += at_once(&small, work);
     printf("%d threads at once, %d rounds each\n", THREADS, ROUNDS);
+    failures += at_once(&small, ask);
+    printf("%d threads at once, %d queries each, of one coordinator\n", THREADS, QUERIES);
     printf(failures ? "%d wrong\n" : "all as it should be\n", failures);
     return failures != 0;
 }

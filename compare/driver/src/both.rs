@@ -2,18 +2,23 @@
 //! is compared.
 
 use crate::{
+    arrivals::Arrivals,
+    buffers::Buffer,
     c,
     calls::{Answer, Call, Outcome, Step},
     faults::Fault,
     fire::Fire,
     library::{Library, Surplus},
-    mark,
+    mark, packet,
     responses::Responses,
     same,
     signature_type::SigType,
     states::IDLE,
     view::{View, CONFIG},
 };
+
+/// What the buffer of the query of arrivals holds before it.
+static UNTOLD: [u8; c::ANSWER_LENGTH] = [0xC3; c::ANSWER_LENGTH];
 
 /// What differs, in words.
 #[derive(Clone, Debug, PartialEq, Eq)]
@@ -27,11 +32,14 @@ pub struct Both {
     pub fire: Fire,
     pub library: Library,
     pub responses: Responses,
+    pub arrivals: Arrivals,
     fault: Option<Fault>,
     /// The buffers as they were before the call.
     state: Vec<u8>,
     store: Vec<u8>,
     out: Vec<u8>,
+    /// What the query of arrivals is lent to write to.
+    told: Buffer,
     /// Responses and share lists that fire.rs held before the call.
     held: (usize, usize),
     /// The mark that the library gave beside its last job.
@@ -95,8 +103,11 @@ impl Both {
         let library = Library::new(surplus);
         let (state, store) = (library.state.bytes().to_vec(), library.store.bytes().to_vec());
         let out = library.out.bytes().to_vec();
-        let (fire, responses) = (Fire::new(), Responses::new(fault));
-        Both { fire, library, responses, fault, state, store, out, held: (0, 0), mark: 0 }
+        let mut told = Buffer::new(c::ANSWER_LENGTH, library.out.lent());
+        told.bytes_mut().copy_from_slice(&UNTOLD);
+        let (fire, responses, arrivals) = (Fire::new(), Responses::new(fault), Arrivals::default());
+        let (held, mark) = ((0, 0), 0);
+        Both { fire, library, responses, arrivals, fault, state, store, out, told, held, mark }
     }
 
     pub fn view(&self) -> View<'_> {
@@ -130,6 +141,7 @@ impl Both {
         }
         self.fields(step)?;
         self.unchanged(step, &answer)?;
+        self.arrived(step)?;
         self.no_operation()?;
         self.probe(step)?;
         Ok(answer)
@@ -192,6 +204,8 @@ impl Both {
         )?;
         let given = self.library.can_move_to(0, &SigType::default());
         compare_answers("answer while a job is out", refused, given)?;
+        let given = self.library.tell_arrivals(&mut self.told);
+        compare_answers("answer while a job is out", refused, given)?;
         self.reset_drops_the_job()?;
         let given = self.library.aggregated(matches!(outcome, Outcome::Signed(_)));
         let none = c::Answer { class: c::RESULT, ..c::Answer::default() };
@@ -251,6 +265,35 @@ impl Both {
         }
         self.held = held;
         self.guards()
+    }
+
+    /// Who has answered the current message, and when. The query changes nothing.
+    fn arrived(&mut self, step: &Step) -> Result<(), Difference> {
+        let saved = self.fire.saved().expect("commissioned");
+        self.arrivals.note(saved, step.now);
+        if !self.arrivals.same(&self.view()) {
+            return differ("the reading of a recorded response");
+        }
+        let came = self.arrivals.of(&saved.message);
+        self.arrivals.named += u64::from(!came.is_empty());
+        let bytes = packet::arrivals(&came);
+        let length = bytes.len() as u64;
+        let given = self.library.tell_arrivals(&mut self.told);
+        let wanted = c::Answer { class: c::RESULT, length, ..c::Answer::default() };
+        compare_answers("answer to the query of arrivals", wanted, given)?;
+        let (written, rest) = self.told.bytes_mut().split_at_mut(bytes.len());
+        if self.fault.is_some_and(Fault::is_in_arrivals) && !came.is_empty() {
+            written[bytes.len() - 1] ^= 1;
+        }
+        if *written != bytes[..] {
+            return differ(format!("arrivals\n  wanted {bytes:?}\n  given  {written:?}"));
+        }
+        let (untold, untold_rest) = UNTOLD.split_at(bytes.len());
+        written.copy_from_slice(untold);
+        if *rest != *untold_rest || !self.told.guards_stay() {
+            return differ("bytes past the arrivals");
+        }
+        self.nothing_changed("the query of arrivals")
     }
 
     /// The aggregator's answer with no job out: it is refused (6), not for the state's bytes (4),

@@ -22,6 +22,11 @@ impl Buffer {
         self.bytes[GUARD..].as_mut_ptr()
     }
 
+    /// For a call that only reads.
+    pub fn start(&self) -> *const u8 {
+        self.bytes[GUARD..].as_ptr()
+    }
+
     pub fn lent(&self) -> usize {
         self.lent
     }

@@ -181,6 +181,14 @@ extern "C" {
         out_length: usize,
         clock: u64,
     ) -> Answer;
+    pub fn rc_tell_arrivals(
+        state: *const u8,
+        state_length: usize,
+        store: *const u8,
+        store_length: usize,
+        out: *mut u8,
+        out_length: usize,
+    ) -> Answer;
     pub fn rc_aggregated(
         state: *mut u8,
         state_length: usize,

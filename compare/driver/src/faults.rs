@@ -13,7 +13,7 @@ use crate::{
 pub struct Fault(pub u8);
 
 /// What each fault does, from 1 on.
-pub const FAULTS: [&str; 13] = [
+pub const FAULTS: [&str; 15] = [
     "the last byte of a share request (kind 3) is changed",
     "after a nonce request a malicious signer is forgotten",
     "in NonceGather nonce_start is one nanosecond later",
@@ -27,6 +27,8 @@ pub const FAULTS: [&str; 13] = [
     "after 11 the sign id is one more",
     "refusal 18 is given the number 17",
     "the last byte of a signer's packet that the library wrote is changed",
+    "the last byte of the query of arrivals is changed, where it names somebody",
+    "the reading of a recorded response is another one",
 ];
 
 impl Fault {
@@ -37,6 +39,11 @@ impl Fault {
     /// Whether it is put into what a signer's writers wrote, and nowhere else.
     pub fn is_in_responses(self) -> bool {
         self.0 == 13
+    }
+
+    /// Whether it is put into what the query of arrivals wrote, and nowhere else.
+    pub fn is_in_arrivals(self) -> bool {
+        self.0 == 14
     }
 
     pub fn put(self, given: &mut c::Answer, library: &mut Library) {
@@ -70,6 +77,9 @@ impl Fault {
             5 if kind == 3 => slots().find(|i| v.waits(0, *i)).map(|i| view::waits_at(0, i)),
             9 => Some(ZEROS_START),
             11 if given.number == 11 => Some(IDS_START + SIGN_ID),
+            15 if v.record_count() > 0 => {
+                slots().find(|i| v.responded(0, *i)).map(|i| view::clock_at(0, i))
+            }
             _ => None,
         };
         if let Some(place) = place {

@@ -7,6 +7,7 @@
 // fire.rs's own error is that large.
 #![allow(clippy::result_large_err)]
 
+pub mod arrivals;
 pub mod bench;
 pub mod both;
 pub mod buffers;

@@ -219,6 +219,28 @@ impl Library {
         }
     }
 
+    /// The query of arrivals, to a buffer beside the three: what was written to `out` stays.
+    pub fn tell_arrivals(&self, out: &mut Buffer) -> c::Answer {
+        let (state, store) = (self.state.start(), self.store.start());
+        let lent = (self.state.lent(), self.store.lent(), out.lent());
+        unsafe { c::rc_tell_arrivals(state, lent.0, store, lent.1, out.pointer(), lent.2) }
+    }
+
+    /// The same to `out`, with less lent than there is.
+    pub fn tell_arrivals_lending(&mut self, store: usize, out: usize) -> c::Answer {
+        assert!(store <= self.store.lent() && out <= self.out.lent());
+        unsafe {
+            c::rc_tell_arrivals(
+                self.state.start(),
+                self.state.lent(),
+                self.store.start(),
+                store,
+                self.out.pointer(),
+                out,
+            )
+        }
+    }
+
     pub fn aggregated(&mut self, ok: bool) -> c::Answer {
         let (state, store) = (self.state.pointer(), self.store.pointer());
         let ok = ok as u8;

@@ -66,11 +66,13 @@ impl Probe {
             }
             Probe::ShortOut => {
                 let length = c::ANSWER_LENGTH - 1;
-                refused(self, 7, library.process_timeout_lending(step.now, store, length))
+                refused(self, 7, library.process_timeout_lending(step.now, store, length))?;
+                refused(self, 7, library.tell_arrivals_lending(store, length))
             }
             Probe::ShortStore => {
                 let length = c::STORE_LENGTH - 1;
-                refused(self, 4, library.process_timeout_lending(step.now, length, out))
+                refused(self, 4, library.process_timeout_lending(step.now, length, out))?;
+                refused(self, 4, library.tell_arrivals_lending(length, out))
             }
             Probe::ForeignState => foreign_state(step, library),
             Probe::Reader => reader(step),
@@ -113,9 +115,12 @@ fn foreign_state(step: &Step, library: &mut Library) -> Result<(), String> {
     library.state.bytes_mut()[place] = spoilt;
     let before = library.state.bytes().to_vec();
     let given = library.reset();
+    let (store, out) = (library.store.lent(), library.out.lent());
+    let told = library.tell_arrivals_lending(store, out);
     let kept = library.state.bytes() == before;
     library.state.bytes_mut()[place] = good;
     refused(Probe::ForeignState, 4, given)?;
+    refused(Probe::ForeignState, 4, told)?;
     if kept {
         Ok(())
     } else {

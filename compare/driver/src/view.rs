@@ -28,13 +28,15 @@ pub struct View<'a> {
     pub store: &'a [u8],
 }
 
-/// A recorded response: its ids, key ids (4 bytes each) and nonces (66 each).
+/// A recorded response: its ids, key ids (4 bytes each) and nonces (66 each), and the reading of
+/// the call that recorded it.
 pub struct ResponseView<'a> {
     pub dkg_id: u64,
     pub sign_id: u64,
     pub sign_iter_id: u64,
     pub key_ids: &'a [u8],
     pub nonces: &'a [u8],
+    pub clock: u64,
 }
 
 /// A held share: its id, z_i and key ids (4 bytes each).
@@ -153,6 +155,7 @@ impl<'a> View<'a> {
             sign_iter_id: u64_at(self.state, at + SLOT_IDS + SIGN_ITER_ID),
             key_ids: &self.store[from..][..4 * key_ids],
             nonces: &self.store[from + STORED_KEYS..][..66 * nonces],
+            clock: u64_at(self.state, at + SLOT_CLOCK),
         }
     }
 
@@ -271,6 +274,10 @@ pub fn malicious_at(slot: usize) -> usize {
 
 pub fn waits_at(row: usize, slot: usize) -> usize {
     slot_at(row, slot) + WAITS
+}
+
+pub fn clock_at(row: usize, slot: usize) -> usize {
+    slot_at(row, slot) + SLOT_CLOCK
 }
 
 pub fn stored_nonces_at(row: usize, slot: usize) -> usize {

@@ -98,7 +98,7 @@ pub fn is_letter(b: u8) -> bool {
     match b {
         b'R' | b'V' | b'K' | b'M' => true,
         b'2' | b'4' => true,
-        b'N' | b'S' | b'J' | b'T' | b'I' | b'5' | b'6' | b'7' => true,
+        b'N' | b'S' | b'J' | b'T' | b'I' | b'A' | b'5' | b'6' | b'7' => true,
         _ => false,
     }
 }

@@ -7,6 +7,8 @@ use job::JobPlace;
 use job::JobPlaces;
 use layout::Ids;
 use layout::SignerId;
+use pieces::places::Arrival;
+use pieces::places::Arrivals;
 use pieces::places::Place;
 use pieces::places::ResponsePlace;
 use pieces::places::ResponsePlaces;
@@ -129,6 +131,34 @@ fn signers(s: &[u8], at: usize) -> SignerIds {
     }
 }
 
+// A case's i-th arrival: its signer, then its reading.
+fn arrival(s: &[u8], i: u8) -> Arrival {
+    let at = 5 + 12 * (i as usize);
+    Arrival {
+        signer_id: SignerId(wire::u32_at(s, at)),
+        clock: wire::u64_at(s, at + 4),
+    }
+}
+
+fn arrivals(s: &[u8]) -> Arrivals {
+    let all = [
+        arrival(s, 0),
+        arrival(s, 1),
+        arrival(s, 2),
+        arrival(s, 3),
+        arrival(s, 4),
+        arrival(s, 5),
+        arrival(s, 6),
+        arrival(s, 7),
+        arrival(s, 8),
+        arrival(s, 9),
+    ];
+    Arrivals {
+        arrivals: all,
+        count: number(s, 3),
+    }
+}
+
 // The packet that a case's letter names.
 fn write(letter: u8, s: &[u8], store: &[u8; layout::STORE_LENGTH], out: &mut [u8]) -> Written {
     let h = head(s);
@@ -140,6 +170,7 @@ fn write(letter: u8, s: &[u8], store: &[u8; layout::STORE_LENGTH], out: &mut [u8
         b'J' => job::write_job(out, h, text, store, job_places(s)),
         b'T' => results::write_nonce_timeout(out, signers(s, 3), signers(s, 5)),
         b'I' => results::write_insufficient_signers(out, signers(s, 3)),
+        b'A' => results::write_arrivals(out, arrivals(s)),
         b'5' => dkg::write_dkg_begin(out, id),
         b'6' => dkg::write_dkg_signer(out, SignerId(wire::u16_at(s, 5) as u32), id),
         _ => dkg::write_dkg_coordinator(out, id),

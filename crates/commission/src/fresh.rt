@@ -33,6 +33,7 @@ fn no_records() -> Records
         ids,
         key_ids: 0,
         nonces: 0,
+        clock: 0,
     };
     let slots = [slot; SIGNER_LIMIT];
     let row = SignRoundInfo { message: 0, slots };

@@ -11,6 +11,7 @@ ghost use Rattle.starts.specs.Starts.{startTurn};
 ghost use Rattle.packet_entry.specs.declared.Entry.the-variants.{Process, ProcessMessage};
 ghost use Rattle.process.specs.Process.{receiveTurn};
 ghost use Rattle.process_timeout.specs.ProcessTimeout.{processTimeoutTurn};
+ghost use Rattle.arrivals.specs.Query.{arrivalsTurn};
 use calls::aggregator;
 use calls::held_keys;
 use calls::held_keys::HeldKey;
@@ -118,4 +119,12 @@ pub fn reset(s: Coordinator, store: &[u8]) -> Done
     ensures { λ r. ⌜ Did (resetTurn s (now (store .entry))) [] r (now (store .entry)) [] ⌝ }
 {
     resets::reset(s, store)
+}
+
+// When each signer answered the current message.
+pub fn tell_arrivals(s: Coordinator, store: &[u8], out: &mut [u8]) -> Done
+    ensures { λ r. ⌜ Did (arrivalsTurn (length (now (out .entry))) s (now (store .entry)))
+        (now (out .entry)) r (now (store .entry)) (now (out .exit)) ⌝ }
+{
+    arrivals::tell_arrivals(s, store, out)
 }

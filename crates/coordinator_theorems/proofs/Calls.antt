@@ -18,9 +18,11 @@ use Rattle.results.proofs.Refines.{results-refines}
 use Rattle.starts.specs.declared.naming.SignId.{SignId}
 use Rattle.starts.specs.declared.naming.SignId.the-variants.{Next, Given}
 use Rattle.starts.proofs.Refines.{idGiven, start-refines}
+use Rattle.arrivals.proofs.Refines.{tell-arrivals-refines}
 use Rattle.process_timeout.proofs.Refines.{process-timeout-refines}
 use Rattle.process.proofs.Refines.{receive-refines}
-use Rattle.coordinator_theorems.specs.Host.{HostRequest, commission, setKey, takeResults, canMove, start, receive, processTimeout, aggregated, reset}
+use Rattle.coordinator_theorems.specs.Host.{HostRequest, commission, setKey, takeResults, canMove, start, receive, processTimeout}
+use Rattle.coordinator_theorems.specs.Host.{aggregated, reset, tellArrivals}
 use Rattle.coordinator_theorems.specs.Host.{turnFor, signId, asRequest, Formed, GivenArrays}
 
 pub as-shaped : {s : Coordinator} → Formed s → Shaped s
@@ -45,3 +47,4 @@ turn-refines (receive entry p) clock verdict room s store f a = receive-refines 
 turn-refines processTimeout clock verdict room s store f a = process-timeout-refines clock s store (as-shaped f) room verdict
 turn-refines (aggregated ok) clock verdict room s store f a = aggregated-refines clock room verdict s store ok
 turn-refines reset clock verdict room s store f a = reset-refines clock room verdict s store
+turn-refines tellArrivals clock verdict room s store f a = tell-arrivals-refines s store (as-shaped f) clock room verdict

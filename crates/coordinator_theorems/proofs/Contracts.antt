@@ -27,8 +27,10 @@ use Rattle.coordinator.proofs.process_message as process_message
 use Rattle.coordinator.proofs.process_timeout as process_timeout
 use Rattle.coordinator.proofs.aggregated as aggregated′
 use Rattle.coordinator.proofs.reset as reset′
+use Rattle.coordinator.proofs.tell_arrivals as tell_arrivals
 use Rattle.coordinator_theorems.specs.Contracts.{at, promising}
-use Rattle.coordinator_theorems.specs.Host.{HostRequest, commission, setKey, takeResults, canMove, start, receive, processTimeout, aggregated, reset, turnFor}
+use Rattle.coordinator_theorems.specs.Host.{HostRequest, commission, setKey, takeResults, canMove, start, receive, processTimeout}
+use Rattle.coordinator_theorems.specs.Host.{aggregated, reset, tellArrivals, turnFor}
 
 module _ (w : World) where
   -- calls that are lent no answer buffer: their turn looks at no clock, no verdict and no buffer's length
@@ -106,3 +108,10 @@ module _ (w : World) where
         ≡ promising w process_timeout.ended κs (λ r e. Writes processTimeout verdict r (now store) (now (e .1 .1 .0)))
     unfolding turnFor
     process-timeout-is κs verdict = refl
+
+    pub tell-arrivals-is :
+        (κs : Lfts 2) (verdict : Bool)
+        → at w tell_arrivals.clauses κs (s, (store, (out, tt)))
+        ≡ promising w tell_arrivals.ended κs (λ r e. Writes tellArrivals verdict r (now store) (now (e .1 .1 .0)))
+    unfolding turnFor
+    tell-arrivals-is κs verdict = refl

@@ -57,7 +57,7 @@ module _ (k : HostCall) (x : Host) (formed : Formed (x .struct)) (m : Makeable (
 
   pub host-refusal-changes :
       (n : ℕ) → turnOf k x .answer .number ≡ suc n
-      → (viewed (hostStep k x) ≡ afterRefusal (suc n) (asRequest (k .request)) (viewed x)) × (turnOf k x .answer .bytes ≡ [])
+      → (viewed (hostStep k x) ≡ afterRefusal (k .clock) (suc n) (asRequest (k .request)) (viewed x)) × (turnOf k x .answer .bytes ≡ [])
   unfolding asCall
   host-refusal-changes n e =
       let told = refusal-changes (asCall k) (viewed x) n (sym (ap (λ (a : A.Answer). a .number) (r .answer)) ∙ e) in

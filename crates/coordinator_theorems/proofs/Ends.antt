@@ -32,9 +32,9 @@ use Rattle.packet_entry.specs.declared.Entry.{Entry}
 use Rattle.coordinator_theorems.specs.Host.{HostRequest, commission, setKey, takeResults, start, receive, aggregated, reset}
 use Rattle.coordinator_theorems.specs.Refusals.{changing, commissions, RefusalLeaves, otherwise}
 
--- the response of a packet recorded, in row r and slot i
-abbrev pub withRecord : List ℕ → ℕ → ℕ → Coordinator → Coordinator
-withRecord p r i s = setRecords (addedRecords r i (headerIn p .ids) (partAt p 32) (partAt p 40) (partAt p 48) (s .records)) s
+-- the response of a packet recorded at a clock reading, in row r and slot i
+abbrev pub withRecord : ℕ → List ℕ → ℕ → ℕ → Coordinator → Coordinator
+withRecord clock p r i s = setRecords (addedRecords clock r i (headerIn p .ids) (partAt p 32) (partAt p 40) (partAt p 48) (s .records)) s
 
 abbrev pub recordStored : List ℕ → ℕ → ℕ → Coordinator → List ℕ → List ℕ
 recordStored p r i s store = addedStore r i (partAt p 32) (partAt p 40) (partAt p 48) (s .records) store
@@ -64,10 +64,12 @@ pub data Taken (s : Coordinator) (store : List ℕ) : HostRequest → Coordinato
   retried :
       {q : HostRequest} (clock : ℕ) (t : SignatureType) (waits : List Bool)
       → Taken s store q (startRequested clock t (excludedIn waits s .position .root) (excludedIn waits s)) store
-  recorded : {entry : Entry} {p : List ℕ} (r i : ℕ) → Taken s store (receive entry p) (withRecord p r i s) (recordStored p r i s store)
+  recorded :
+      {entry : Entry} {p : List ℕ} (clock r i : ℕ)
+      → Taken s store (receive entry p) (withRecord clock p r i s) (recordStored p r i s store)
   shares-asked :
       {entry : Entry} {p : List ℕ} (clock : ℕ) (t : SignatureType) (r i : ℕ)
-      → Taken s store (receive entry p) (sharesRequested clock t (partAt p 32) (withRecord p r i s)) (recordStored p r i s store)
+      → Taken s store (receive entry p) (sharesRequested clock t (partAt p 32) (withRecord clock p r i s)) (recordStored p r i s store)
   waiter-freed : {entry : Entry} {p : List ℕ} (r i : ℕ) → Taken s store (receive entry p) (freed r i s) store
   shares-taken :
       {entry : Entry} {p : List ℕ} (parts : List (List ℕ)) (r i : ℕ)
@@ -76,21 +78,21 @@ pub data Taken (s : Coordinator) (store : List ℕ) : HostRequest → Coordinato
       {entry : Entry} {p : List ℕ} (parts : List (List ℕ)) (r i : ℕ)
       → Taken s store (receive entry p) (setJob true (withShares parts r i s)) (keptStore i parts store)
 
-pub data Ended (q : HostRequest) (s : Coordinator) (store : List ℕ) (t : Turn) : Type 0 where
-  took : t .answer .number ≡ 0 → Taken s store q (t .after) (t .store) → Ended q s store t
-  refused : RefusalLeaves s store q (t .answer .number) (t .after) (t .store) → Ended q s store t
+pub data Ended (clock : ℕ) (q : HostRequest) (s : Coordinator) (store : List ℕ) (t : Turn) : Type 0 where
+  took : t .answer .number ≡ 0 → Taken s store q (t .after) (t .store) → Ended clock q s store t
+  refused : RefusalLeaves clock s store q (t .answer .number) (t .after) (t .store) → Ended clock q s store t
 
 -- a question that changes nothing where it is answered no
 abbrev pub Bare : Passed → Type 0
 Bare Yes = Unit {0}
 Bare (No n) = changing n ≡ false
 
-module _ {q : HostRequest} {s : Coordinator} {store : List ℕ} where
-  pub ends-unless : commissions q ≡ false → (p : Passed) {rest : Turn} → Bare p → Ended q s store rest → Ended q s store (unless p s store rest)
+module _ {clock : ℕ} {q : HostRequest} {s : Coordinator} {store : List ℕ} where
+  pub ends-unless : commissions q ≡ false → (p : Passed) {rest : Turn} → Bare p → Ended clock q s store rest → Ended clock q s store (unless p s store rest)
   unfolding unless
   ends-unless other Yes b k = k
   ends-unless other (No n) b k = refused (otherwise q n other b)
 
-  pub ends-cond : (b : Bool) {x y : Turn} → (b ≡ true → Ended q s store x) → (b ≡ false → Ended q s store y) → Ended q s store (cond b x y)
+  pub ends-cond : (b : Bool) {x y : Turn} → (b ≡ true → Ended clock q s store x) → (b ≡ false → Ended clock q s store y) → Ended clock q s store (cond b x y)
   ends-cond true k l = k refl
   ends-cond false k l = l refl

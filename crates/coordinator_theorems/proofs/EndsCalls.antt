@@ -1,4 +1,4 @@
--- How the calls that write no packet end.
+-- How the calls that bring no packet and test no timeout end, but for the start.
 -- Assumes nothing.
 use Prim.Native.Nat.{ℕ, _≤_}
 use mathlib.Core.Path.{_≡_, refl}
@@ -27,7 +27,8 @@ use Rattle.calls.specs.declared.held_keys.HeldKey.{HeldKey}
 use Rattle.calls.specs.Calls.{askingNoJob, askingAJob, setKeyTurn, moveTurn, aggregatedTurn}
 use Rattle.calls.specs.Resets.{asksNothing, resetTurn}
 use Rattle.results.specs.Results.{isKnown, resultsAsked, resultsTurn}
-use Rattle.coordinator_theorems.specs.Host.{commission, setKey, takeResults, canMove, aggregated, reset}
+use Rattle.arrivals.specs.Query.{askingQuery, toldTurn, arrivalsTurn}
+use Rattle.coordinator_theorems.specs.Host.{commission, setKey, takeResults, canMove, aggregated, reset, tellArrivals}
 use Rattle.coordinator_theorems.specs.Refusals.{commissioning, failed}
 use Rattle.coordinator_theorems.proofs.Ends.{Ended, took, refused, fresh, key-set, results-taken, signature, all-reset, as-before, Bare, ends-unless}
 
@@ -43,12 +44,12 @@ new-numbers g =
     (cond-both FirstThree (question2 g) (cond-both FirstThree (question3 g) tt (omega arith, omega arith)) (omega arith, omega arith))
     (omega arith, omega arith)
 
-pub commission-ends : (g : NewConfig) (s : Coordinator) (store : List ℕ) → Ended (commission g) s store (commissionTurn g store)
+pub commission-ends : (clock : ℕ) (g : NewConfig) (s : Coordinator) (store : List ℕ) → Ended clock (commission g) s store (commissionTurn g store)
 unfolding commissionTurn unless
-commission-ends g s store = by (newAsked (newConfigOf g)) refl (new-numbers (newConfigOf g))
+commission-ends clock g s store = by (newAsked (newConfigOf g)) refl (new-numbers (newConfigOf g))
   where
     by : (p : Passed) → newAsked (newConfigOf g) ≡ p → FirstThree p
-        → Ended (commission g) s store (unless p uncommissionedStruct store (turn A.plain (freshOf g) (replicate (length store) 0)))
+        → Ended clock (commission g) s store (unless p uncommissionedStruct store (turn A.plain (freshOf g) (replicate (length store) 0)))
     by Yes e f = took refl (fresh e)
     by (No n) e f = refused (commissioning g n (f .0) (f .1))
 
@@ -88,27 +89,32 @@ results-bare ended s =
     (cond-both Bare (leb (length ended) signerLimit) (cond-both Bare (every (isKnown (s .config)) ended) tt refl) refl)
     refl
 
-module _ (s : Coordinator) (store : List ℕ) where
-  pub set-key-ends : (which : HeldKey) (held : Bool) → Ended (setKey which held) s store (setKeyTurn which held s store)
+module _ (clock : ℕ) (s : Coordinator) (store : List ℕ) where
+  pub set-key-ends : (which : HeldKey) (held : Bool) → Ended clock (setKey which held) s store (setKeyTurn which held s store)
   unfolding setKeyTurn
   set-key-ends which held =
       ends-unless refl (asked askingNoJob (length store) 0 s) (asked-bare askingNoJob (length store) 0 s) (took refl key-set)
 
-  pub move-ends : (next : State) (root : List ℕ) → Ended (canMove next root) s store (moveTurn next root s store)
+  pub move-ends : (next : State) (root : List ℕ) → Ended clock (canMove next root) s store (moveTurn next root s store)
   unfolding moveTurn
   move-ends next root = ends-unless refl (asked askingNoJob (length store) 0 s) (asked-bare askingNoJob (length store) 0 s) (took refl as-before)
 
-  pub aggregated-ends : (ok : Bool) → Ended (aggregated ok) s store (aggregatedTurn ok s store)
+  pub aggregated-ends : (ok : Bool) → Ended clock (aggregated ok) s store (aggregatedTurn ok s store)
   unfolding aggregatedTurn
   aggregated-ends true = ends-unless refl (asked askingAJob (length store) 0 s) (asked-bare askingAJob (length store) 0 s) (took refl signature)
   aggregated-ends false = ends-unless refl (asked askingAJob (length store) 0 s) (asked-bare askingAJob (length store) 0 s) (refused failed)
 
-  pub reset-ends : Ended reset s store (resetTurn s store)
+  pub reset-ends : Ended clock reset s store (resetTurn s store)
   unfolding resetTurn
   reset-ends = ends-unless refl (asked asksNothing (length store) 0 s) (asked-bare asksNothing (length store) 0 s) (took refl all-reset)
 
-  pub results-ends : (dkg : ℕ) (ended : List ℕ) → Ended (takeResults dkg ended) s store (resultsTurn dkg ended s store)
+  pub results-ends : (dkg : ℕ) (ended : List ℕ) → Ended clock (takeResults dkg ended) s store (resultsTurn dkg ended s store)
   unfolding resultsTurn
   results-ends dkg ended =
       ends-unless refl (asked askingNoJob (length store) 0 s) (asked-bare askingNoJob (length store) 0 s)
       (ends-unless refl (resultsAsked ended s) (results-bare ended s) (took refl results-taken))
+
+  pub arrivals-ends : (room : ℕ) → Ended clock tellArrivals s store (arrivalsTurn room s store)
+  unfolding arrivalsTurn toldTurn
+  arrivals-ends room =
+      ends-unless refl (asked askingQuery (length store) room s) (asked-bare askingQuery (length store) room s) (took refl as-before)

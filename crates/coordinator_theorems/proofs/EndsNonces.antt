@@ -62,26 +62,26 @@ module _ (clock : ℕ) (t : SignatureType) (entry : Entry) (p : List ℕ) (s : C
   -- the response is recorded, then its message's keys are too few, or no group key is held (10), or the shares are asked for
   recorded-ends :
       (r i : ℕ) → r ≡ recordPlace m (s .records) store → slotOf id (s .config) ≡ some i
-      → Ended (receive entry p) s store (recordedTurn clock t r i (headerIn p .ids) id m (partAt p 40) (partAt p 48) s store)
+      → Ended clock (receive entry p) s store (recordedTurn clock t r i (headerIn p .ids) id m (partAt p 40) (partAt p 48) s store)
   unfolding recordedTurn recordTurn shareRequestTurn
   recorded-ends r i place slot =
-      let s′ = withRecord p r i s in
+      let s′ = withRecord clock p r i s in
       let store′ = recordStored p r i s store in
       ends-cond (leb (s .config .«sign_threshold») (receivedKeys m s′ store′))
       (λ e. ends-cond (s .keys .aggregate) (λ f. took refl (shares-asked clock t r i))
       (λ f. refused (gathering entry p t r i here two place slot)))
-      (λ e. took refl (recorded r i))
+      (λ e. took refl (recorded clock r i))
 
   verdict-ends :
       (v : Verdict) → Says id m (partAt p 40) (partAt p 48) s store v
-      → Ended (receive entry p) s store (verdictTurn clock t (headerIn p .ids) id m (partAt p 40) (partAt p 48) s store v)
+      → Ended clock (receive entry p) s store (verdictTurn clock t (headerIn p .ids) id m (partAt p 40) (partAt p 48) s store v)
   unfolding verdictTurn
   verdict-ends (Wrong n got expected) says = refused (otherwise (receive entry p) n refl says)
   verdict-ends Full says = refused (otherwise (receive entry p) 19 refl refl)
   verdict-ends Nothing says = took refl as-before
   verdict-ends (Record r i) says = recorded-ends r i (says .0) (says .1)
 
-  pub gather-ends : Ended (receive entry p) s store (gatherTurn clock t (headerIn p .ids) id m (partAt p 40) (partAt p 48) s store)
+  pub gather-ends : Ended clock (receive entry p) s store (gatherTurn clock t (headerIn p .ids) id m (partAt p 40) (partAt p 48) s store)
   unfolding gatherTurn
   gather-ends =
       verdict-ends (verdictOf s (headerIn p .ids) id store m (partAt p 40) (partAt p 48))

@@ -49,17 +49,17 @@ idle-moves by s e q = absurd (false≢true (sym (rw e at q)))
 module _ (clock : ℕ) (s : Coordinator) (store : List ℕ) where
   -- a round of a struct s′ that is s, or s with Idle's iteration
   round-ends :
-      {q : HostRequest} (m : List ℕ) (by : Start) (s′ : Coordinator) → RefusalLeaves s store q 10 s′ store
-      → (movesOn by (startNamed m (by .«sign_id») s′) ≡ false → RefusalLeaves s store q 11 (startNamed m (by .«sign_id») s′) store)
+      {q : HostRequest} (m : List ℕ) (by : Start) (s′ : Coordinator) → RefusalLeaves clock s store q 10 s′ store
+      → (movesOn by (startNamed m (by .«sign_id») s′) ≡ false → RefusalLeaves clock s store q 11 (startNamed m (by .«sign_id») s′) store)
       → Taken s store q (startRequested clock (by .«signature_type») (by .root) (startNamed m (by .«sign_id») s′)) store
-      → Ended q s store (roundTurn clock m by s′ store)
+      → Ended clock q s store (roundTurn clock m by s′ store)
   unfolding roundTurn namedTurn requestTurn
   round-ends m by s′ ten eleven taken =
       ends-cond (s′ .keys .aggregate)
       (λ e. ends-cond (movesOn by (startNamed m (by .«sign_id») s′)) (λ f. took refl taken) (λ f. refused (eleven f)))
       (λ e. refused ten)
 
-  pub start-ends : (m : List ℕ) (by : Start) (room : ℕ) → Ended (start m by) s store (startTurn clock m by room s store)
+  pub start-ends : (m : List ℕ) (by : Start) (room : ℕ) → Ended clock (start m by) s store (startTurn clock m by room s store)
   unfolding startTurn startNamed
   start-ends m by room =
       ends-unless refl (asked askingStart (length store) room s) (asked-bare askingStart (length store) room s)
@@ -70,7 +70,7 @@ module _ (clock : ℕ) (s : Coordinator) (store : List ℕ) where
   module _ (entry : Entry) (p : List ℕ) where
     idle-request-ends :
         phaseOf (s .position .state) ≡ idling → headerIn p .kind ≡ 1
-        → Ended (receive entry p) s store (idleRequestTurn clock p s store)
+        → Ended clock (receive entry p) s store (idleRequestTurn clock p s store)
     unfolding idleRequestTurn iterated startNamed
     idle-request-ends e one =
         let n = headerIn p .ids .«sign_iter_id» in
@@ -79,7 +79,7 @@ module _ (clock : ℕ) (s : Coordinator) (store : List ℕ) where
         (λ g. idle-moves (startIn p) (startNamed (partAt p 32) (startIn p .«sign_id») (iterated n s)) (in-idle e) g)
         (started-idle clock n))
 
-    pub idle-ends : phaseOf (s .position .state) ≡ idling → Ended (receive entry p) s store (idleTurn clock p s store)
+    pub idle-ends : phaseOf (s .position .state) ≡ idling → Ended clock (receive entry p) s store (idleTurn clock p s store)
     unfolding idleTurn
     idle-ends e =
         ends-cond (eqb (headerIn p .kind) 1) (λ f. idle-request-ends e (eqb-true _ _ f))
@@ -94,28 +94,28 @@ module _ (clock : ℕ) (s : Coordinator) (store : List ℕ) where
     unfolding recordAsked
     record-bare = cond-both Bare (ltb (currentPlace s store) (s .records .count)) tt refl
 
-    nonce-timeout-ends : Ended q s store (nonceTimeoutTurn s store)
+    nonce-timeout-ends : Ended clock q s store (nonceTimeoutTurn s store)
     unfolding nonceTimeoutTurn
     nonce-timeout-ends = ends-unless other (recordAsked s store) record-bare (took refl as-before)
 
-    row-ends : (t : SignatureType) (row : SignRoundInfo) → Ended q s store (rowTurn clock t row s store)
+    row-ends : (t : SignatureType) (row : SignRoundInfo) → Ended clock q s store (rowTurn clock t row s store)
     unfolding rowTurn excludedTurn insufficientTurn retryTurn requestTurn
     row-ends t row =
         let waits = map isWaiting (row .slots) in
         let s′ = excludedIn waits s in
         ends-cond (tooFewKeys (s′ .marks .malicious) s′) (λ e. took refl (excluded waits)) (λ e. took refl (retried clock t waits))
 
-    share-timeout-ends : (t : SignatureType) → Ended q s store (shareTimeoutTurn clock t s store)
+    share-timeout-ends : (t : SignatureType) → Ended clock q s store (shareTimeoutTurn clock t s store)
     unfolding shareTimeoutTurn
     share-timeout-ends t = ends-unless other (recordAsked s store) record-bare (row-ends t (getD (s .records .rows) (currentPlace s store) noRow))
 
-    pub due-ends : (due : Due) (rest : Turn) → Ended q s store rest → Ended q s store (dueTurn clock due s store rest)
+    pub due-ends : (due : Due) (rest : Turn) → Ended clock q s store rest → Ended clock q s store (dueTurn clock due s store rest)
     unfolding dueTurn
     due-ends Nothing rest k = k
     due-ends Nonces rest k = nonce-timeout-ends
     due-ends (Shares t) rest k = share-timeout-ends t
 
-  pub process-timeout-ends : (room : ℕ) → Ended processTimeout s store (processTimeoutTurn clock room s store)
+  pub process-timeout-ends : (room : ℕ) → Ended clock processTimeout s store (processTimeoutTurn clock room s store)
   unfolding processTimeoutTurn
   process-timeout-ends room =
       ends-unless refl (asked askingTimeout (length store) room s) (asked-bare askingTimeout (length store) room s)

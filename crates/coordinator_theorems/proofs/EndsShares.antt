@@ -60,9 +60,9 @@ module _ (q : SignatureShareResponse) (s : Coordinator) (store : List ℕ) where
   unfolding verdictOf
   verdict-says = given-case Says (slotOf (q .signer-id) (s .config)) waiter-says (λ e. tt)
 
-module _ (t : SignatureType) (entry : Entry) (p : List ℕ) (s : Coordinator) (store : List ℕ)
+module _ (clock : ℕ) (t : SignatureType) (entry : Entry) (p : List ℕ) (s : Coordinator) (store : List ℕ)
     (here : phaseOf (s .position .state) ≡ gatheringShares t) (four : headerIn p .kind ≡ 4) where
-  take-ends : (r i : ℕ) → Ended (receive entry p) s store (takeTurn t p (headerIn p) r i (freed r i s) store)
+  take-ends : (r i : ℕ) → Ended clock (receive entry p) s store (takeTurn t p (headerIn p) r i (freed r i s) store)
   unfolding takeTurn jobTurn
   take-ends r i =
       let s′ = freed r i s in
@@ -72,7 +72,7 @@ module _ (t : SignatureType) (entry : Entry) (p : List ℕ) (s : Coordinator) (s
       (λ f. took refl (shares-taken parts r i)) (λ f. took refl (job-out parts r i)))
 
   verdict-ends :
-      (v : Verdict) → Says (shareResponseIn p) s store v → Ended (receive entry p) s store (verdictTurn t p (headerIn p) s store v)
+      (v : Verdict) → Says (shareResponseIn p) s store v → Ended clock (receive entry p) s store (verdictTurn t p (headerIn p) s store v)
   unfolding verdictTurn shareResponseIn
   verdict-ends Unawaited says = took refl as-before
   verdict-ends (Wrong n got expected) says = refused (otherwise (receive entry p) n refl says)
@@ -80,6 +80,6 @@ module _ (t : SignatureType) (entry : Entry) (p : List ℕ) (s : Coordinator) (s
   verdict-ends (Unended r i) says = took refl (waiter-freed r i)
   verdict-ends (Good r i) says = take-ends r i
 
-  pub gather-shares-ends : Ended (receive entry p) s store (gatherSharesTurn t p s store)
+  pub gather-shares-ends : Ended clock (receive entry p) s store (gatherSharesTurn t p s store)
   unfolding gatherSharesTurn
   gather-shares-ends = verdict-ends (verdictOf s store (shareResponseIn p)) (verdict-says (shareResponseIn p) s store)

@@ -72,12 +72,12 @@ module _ (r i : ℕ) (m keys nonces : List ℕ) (rs : Records) where
       cond-both (λ (o : Records). Rows (o .rows)) (ltb r (rs .count)) h
       (set-row (rs .rows) r (emptyRow (length m)) (λ t. length-replicate signerLimit noSlot) h)
 
-  added-rows : (ids : Ids) → Rows (rs .rows) → Rows (addedRecords r i ids m keys nonces rs .rows)
+  added-rows : (clock : ℕ) (ids : Ids) → Rows (rs .rows) → Rows (addedRecords clock r i ids m keys nonces rs .rows)
   unfolding addedRecords
-  added-rows ids h =
+  added-rows clock ids h =
       let o = opened r (length m) rs in
       let row = getD (o .rows) r noRow in
-      let x = heldSlot ids keys nonces in
+      let x = heldSlot clock ids keys nonces in
       set-row (o .rows) r (setSlot i x row) (λ t. length-set (row .slots) i x ∙ t) (opened-rows h)
 
   opened-length : (store : List ℕ) → length (openedStore r m rs store) ≡ length store
@@ -108,10 +108,10 @@ module _ {s : Coordinator} (f : Formed s) where
   unfolding excludedIn
   excluded-formed waits = formed-of (arrays-of f)
 
-  record-formed : (p : List ℕ) (r i : ℕ) → Formed (withRecord p r i s)
-  record-formed p r i =
+  record-formed : (clock : ℕ) (p : List ℕ) (r i : ℕ) → Formed (withRecord clock p r i s)
+  record-formed clock p r i =
       formed-of (with-rows (arrays-of f)
-      (added-rows r i (partAt p 32) (partAt p 40) (partAt p 48) (s .records) (headerIn p .ids) (arrays-of f .rows)))
+      (added-rows r i (partAt p 32) (partAt p 40) (partAt p 48) (s .records) clock (headerIn p .ids) (arrays-of f .rows)))
 
   shares-asked-formed : (clock : ℕ) (t : SignatureType) (m : List ℕ) → Formed (sharesRequested clock t m s)
   unfolding sharesRequested
@@ -139,12 +139,12 @@ pub record Keeps (store : List ℕ) (t : Turn) : Type 0 where
   pub stored : length (t .store) ≡ length store
 
 module _ {s : Coordinator} {store : List ℕ} (f : Formed s) where
-  refusal-formed : {q : HostRequest} {n : ℕ} {s′ : Coordinator} {store′ : List ℕ} → RefusalLeaves s store q n s′ store′ → Formed s′
+  refusal-formed : {clock : ℕ} {q : HostRequest} {n : ℕ} {s′ : Coordinator} {store′ : List ℕ} → RefusalLeaves clock s store q n s′ store′ → Formed s′
   refusal-formed (commissioning g n l h) = blank-formed
   refusal-formed (idle entry p e k) = formed-of (arrays-of f)
   refusal-formed (unheld m by) = f
-  refusal-formed (gathering entry p t r i e k place slot) =
-      formed-of (with-bytes (arrays-of (record-formed f p r i)) (length-put (s .message .bytes) 0 (partAt p 32) ∙ f .bytes))
+  refusal-formed {clock} (gathering entry p t r i e k place slot) =
+      formed-of (with-bytes (arrays-of (record-formed f clock p r i)) (length-put (s .message .bytes) 0 (partAt p 32) ∙ f .bytes))
   refusal-formed (unmoved m by) = formed-of (with-bytes (arrays-of f) (length-put (s .message .bytes) 0 m ∙ f .bytes))
   refusal-formed (waiter entry p t n r i e k l h place slot) = freed-formed f r i
   refusal-formed failed = formed-of (arrays-of f)
@@ -163,16 +163,16 @@ module _ {s : Coordinator} {store : List ℕ} (f : Formed s) where
   taken-formed (started-idle {p = p} clock n) a = requested-formed (named-formed (iterated-formed f n) _ _) clock _ (rootIn p) (root-32 p)
   taken-formed (excluded waits) a = excluded-formed f waits
   taken-formed (retried clock t waits) a = requested-formed (excluded-formed f waits) clock t _ (excluded-formed f waits .root)
-  taken-formed (recorded {p = p} r i) a = record-formed f p r i
-  taken-formed (shares-asked {p = p} clock t r i) a = shares-asked-formed (record-formed f p r i) clock t (partAt p 32)
+  taken-formed (recorded {p = p} clock r i) a = record-formed f clock p r i
+  taken-formed (shares-asked {p = p} clock t r i) a = shares-asked-formed (record-formed f clock p r i) clock t (partAt p 32)
   taken-formed (waiter-freed r i) a = freed-formed f r i
   taken-formed (shares-taken parts r i) a = shares-formed f parts r i
   taken-formed (job-out parts r i) a = formed-of (arrays-of (shares-formed f parts r i))
 
 module _ {s : Coordinator} {store : List ℕ} where
   pub refusal-stored :
-      {q : HostRequest} {n : ℕ} {s′ : Coordinator} {store′ : List ℕ}
-      → RefusalLeaves s store q n s′ store′ → length store′ ≡ length store
+      {clock : ℕ} {q : HostRequest} {n : ℕ} {s′ : Coordinator} {store′ : List ℕ}
+      → RefusalLeaves clock s store q n s′ store′ → length store′ ≡ length store
   refusal-stored (commissioning g n l h) = refl
   refusal-stored (idle entry p e k) = refl
   refusal-stored (unheld m by) = refl
@@ -193,13 +193,13 @@ module _ {s : Coordinator} {store : List ℕ} where
   taken-stored (started-idle clock n) = refl
   taken-stored (excluded waits) = refl
   taken-stored (retried clock t waits) = refl
-  taken-stored (recorded {p = p} r i) = added-length r i (partAt p 32) (partAt p 40) (partAt p 48) (s .records) store
+  taken-stored (recorded {p = p} clock r i) = added-length r i (partAt p 32) (partAt p 40) (partAt p 48) (s .records) store
   taken-stored (shares-asked {p = p} clock t r i) = added-length r i (partAt p 32) (partAt p 40) (partAt p 48) (s .records) store
   taken-stored (waiter-freed r i) = refl
   taken-stored (shares-taken parts r i) = length-shares _ _ parts store
   taken-stored (job-out parts r i) = length-shares _ _ parts store
 
-ended-keeps : {q : HostRequest} {s : Coordinator} {store : List ℕ} {t : Turn} → Formed s → GivenArrays q → Ended q s store t → Keeps store t
+ended-keeps : {clock : ℕ} {q : HostRequest} {s : Coordinator} {store : List ℕ} {t : Turn} → Formed s → GivenArrays q → Ended clock q s store t → Keeps store t
 ended-keeps f a (took z k) = record { formed = taken-formed f k a; stored = taken-stored k }
 ended-keeps f a (refused r) = record { formed = refusal-formed f r; stored = refusal-stored r }
 

@@ -37,16 +37,16 @@ use Rattle.coordinator_theorems.proofs.Keeps.{added-length, refusal-sto
 -- Refusals
 
 -- a turn's answer has a number: the call was not taken
-refusal : {q : HostRequest} {s : Coordinator} {store : List ℕ} {t : Turn} {n : ℕ} → Ended q s store t → t .answer .number ≡ suc n
-    → RefusalLeaves s store q (suc n) (t .after) (t .store)
+refusal : {clock : ℕ} {q : HostRequest} {s : Coordinator} {store : List ℕ} {t : Turn} {n : ℕ} → Ended clock q s store t → t .answer .number ≡ suc n
+    → RefusalLeaves clock s store q (suc n) (t .after) (t .store)
 refusal (took z k) e = absurd (omega arith)
-refusal {q} {s} {store} {t} (refused r) e = subst (λ (n : ℕ). RefusalLeaves s store q n (t .after) (t .store)) e r
+refusal {clock} {q} {s} {store} {t} (refused r) e = subst (λ (n : ℕ). RefusalLeaves clock s store q n (t .after) (t .store)) e r
 
 module _ (k : HostCall) (x : Host) where
   abbrev front : List ℕ
   front = take (k .lent) (x .store)
 
-  abbrev ended : Ended (k .request) (x .struct) front (turnOf k x)
+  abbrev ended : Ended (k .clock) (k .request) (x .struct) front (turnOf k x)
   ended = turn-ends (k .request) (k .clock) (k .verdict) (k .room) (x .struct) front
 
   -- the lent bytes of what a call leaves are the turn's, and the bytes beyond stay
@@ -61,7 +61,7 @@ module _ (k : HostCall) (x : Host) where
 
   pub host-refusal-leaves :
       Makeable (length (x .store)) k → (n : ℕ) → turnOf k x .answer .number ≡ suc n
-      → RefusalLeaves (x .struct) (take (k .lent) (x .store)) (k .request) (suc n)
+      → RefusalLeaves (k .clock) (x .struct) (take (k .lent) (x .store)) (k .request) (suc n)
       (hostStep k x .struct) (take (k .lent) (hostStep k x .store))
       × (drop (k .lent) (hostStep k x .store) ≡ drop (k .lent) (x .store))
   unfolding hostStep
@@ -72,7 +72,7 @@ module _ (k : HostCall) (x : Host) where
 
 -- "Otherwise nothing": struct and store are equal after
 pub unchanged :
-    {q : HostRequest} {n : ℕ} {s s′ : Coordinator} {store store′ : List ℕ} → RefusalLeaves s store q n s′ store′ → changing n ≡ false
+    {clock : ℕ} {q : HostRequest} {n : ℕ} {s s′ : Coordinator} {store store′ : List ℕ} → RefusalLeaves clock s store q n s′ store′ → changing n ≡ false
     → (s′ ≡ s) × (store′ ≡ store)
 unchanged (commissioning g n l h) c = absurd (false≢true (sym (rw (le-leb 1 n l, le-leb n 3 h) at c)))
 unchanged (idle entry p e k) c = absurd (false≢true (sym c))
@@ -88,7 +88,7 @@ unchanged failed c = absurd (false≢true (sym c))
 unchanged (otherwise q n o e) c = (refl, refl)
 
 -- commissioning is refused with 1 to 3, and then something differs
-uncommissioning : {q : HostRequest} {n : ℕ} {s s′ : Coordinator} {store store′ : List ℕ} → RefusalLeaves s store q n s′ store′ → changing n ≡ false → commissions q ≡ false
+uncommissioning : {clock : ℕ} {q : HostRequest} {n : ℕ} {s s′ : Coordinator} {store store′ : List ℕ} → RefusalLeaves clock s store q n s′ store′ → changing n ≡ false → commissions q ≡ false
 uncommissioning (commissioning g n l h) c = absurd (false≢true (sym (rw (le-leb 1 n l, le-leb n 3 h) at c)))
 uncommissioning (idle entry p e k) c = refl
 uncommissioning (unheld m by) c = refl
@@ -132,7 +132,7 @@ row-message [] r i x = refl
 row-message (row ∷ rows) zero i x = refl
 row-message (row ∷ rows) (suc r) i x = row-message rows r i x
 
-module _ (r i : ℕ) (ids : Ids) (m keys nonces : List ℕ) (rs : Records) (store : List ℕ) where
+module _ (clock r i : ℕ) (ids : Ids) (m keys nonces : List ℕ) (rs : Records) (store : List ℕ) where
   opened-rows : (j : ℕ) → j ≢ r → getD (opened r (length m) rs .rows) j noRow ≡ getD (rs .rows) j noRow
   unfolding opened
   opened-rows j h =
@@ -150,11 +150,11 @@ module _ (r i : ℕ) (ids : Ids) (m keys nonces : List ℕ) (rs : Records) (stor
       (λ a. cond-case (λ (l : List ℕ). Same at n store l) (ltb r (rs .count)) (λ e. same-all at n store)
       (λ e. put-apart store (messageAt r) m a))
 
-  pub record-made : RecordMade r i m keys nonces rs (addedRecords r i ids m keys nonces rs) store (addedStore r i m keys nonces rs store)
+  pub record-made : RecordMade r i m keys nonces rs (addedRecords clock r i ids m keys nonces rs) store (addedStore r i m keys nonces rs store)
   unfolding addedRecords addedStore
   record-made =
       let o = opened r (length m) rs in
-      let x = heldSlot ids keys nonces in
+      let x = heldSlot clock ids keys nonces in
       let row = getD (o .rows) r noRow in
       record {
         rows = λ j h. getD-set-other (o .rows) r j (setSlot i x row) noRow h ∙ opened-rows j h;
@@ -192,8 +192,8 @@ host-commission-zeros k x g e m z =
 -- The calls that bring no packet
 
 refusal-stores :
-    {q : HostRequest} {n : ℕ} {s s′ : Coordinator} {store store′ : List ℕ}
-    → RefusalLeaves s store q n s′ store′ → stores q ≡ false → store′ ≡ store
+    {clock : ℕ} {q : HostRequest} {n : ℕ} {s s′ : Coordinator} {store store′ : List ℕ}
+    → RefusalLeaves clock s store q n s′ store′ → stores q ≡ false → store′ ≡ store
 refusal-stores (commissioning g n l h) e = refl
 refusal-stores (idle entry p e k) c = refl
 refusal-stores (unheld m by) c = refl
@@ -215,13 +215,13 @@ taken-stores (started clock) c = refl
 taken-stores (started-idle clock n) c = refl
 taken-stores (excluded waits) c = refl
 taken-stores (retried clock t waits) c = refl
-taken-stores (recorded r i) c = absurd (false≢true (sym c))
+taken-stores (recorded clock r i) c = absurd (false≢true (sym c))
 taken-stores (shares-asked clock t r i) c = absurd (false≢true (sym c))
 taken-stores (waiter-freed r i) c = refl
 taken-stores (shares-taken parts r i) c = absurd (false≢true (sym c))
 taken-stores (job-out parts r i) c = absurd (false≢true (sym c))
 
-ended-stores : {q : HostRequest} {s : Coordinator} {store : List ℕ} {t : Turn} → Ended q s store t → stores q ≡ false → t .store ≡ store
+ended-stores : {clock : ℕ} {q : HostRequest} {s : Coordinator} {store : List ℕ} {t : Turn} → Ended clock q s store t → stores q ≡ false → t .store ≡ store
 ended-stores (took z k) c = taken-stores k c
 ended-stores (refused r) c = refusal-stores r c
 

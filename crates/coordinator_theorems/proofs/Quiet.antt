@@ -8,7 +8,8 @@ use native.Mathlib.Omega.{arith}
 use borrow.Author.Tests.{le-leb, leb-false}
 use lib.Dec.{eqb, leb}
 use lib.ListN.{length}
-use Rattle.step_definition.specs.Calls as A
+use Rattle.step_definition.specs.Calls.{isNothing}
+use Rattle.step_definition.specs.Refusals.{unchanging}
 use Rattle.state.specs.declared.answers.Passed.{Passed}
 use Rattle.state.specs.declared.answers.Passed.the-variants.{Yes, No}
 use Rattle.state.specs.declared.fields.Coordinator.{Coordinator}
@@ -33,10 +34,6 @@ use Rattle.coordinator_theorems.proofs.EndsCalls.{commission-ends}
 use Rattle.coordinator_theorems.proofs.EndsPackets.{turn-ends}
 use Rattle.coordinator_theorems.proofs.Leaves.{unchanged}
 
--- the numbers of refusals after which nothing differs: not 0, not 1 to 3, 10, 11, 20 to 23
-abbrev pub unchanging : ℕ → Bool
-unchanging n = not (leb n 3 || (eqb n 10 || (eqb n 11 || (leb 20 n && leb n 23))))
-
 none-of : (a b c d : Bool) → not (a || (b || (c || d))) ≡ true → (a ≡ false) × ((b ≡ false) × ((c ≡ false) × (d ≡ false)))
 none-of true b c d e = absurd (false≢true e)
 none-of false true c d e = absurd (false≢true e)
@@ -51,7 +48,7 @@ is-refusal n e =
     let one : leb 1 n ≡ true = le-leb 1 n (omega arith) in
     (past, rw (one, f .0, f .1 .0, f .1 .1 .0, f .1 .1 .1))
 
-quiet-end : {q : HostRequest} {s : Coordinator} {store : List ℕ} {t : Turn} → Ended q s store t → unchanging (t .answer .number) ≡ true → t .after ≡ s
+quiet-end : {clock : ℕ} {q : HostRequest} {s : Coordinator} {store : List ℕ} {t : Turn} → Ended clock q s store t → unchanging (t .answer .number) ≡ true → t .after ≡ s
 quiet-end {t = t} (took z k) e = let past = is-refusal (t .answer .number) e .0 in absurd (omega arith)
 quiet-end {t = t} (refused r) e = unchanged r (is-refusal (t .answer .number) e .1) .0
 
@@ -62,26 +59,18 @@ pub refused-quiet :
 refused-quiet q clock verdict room s store e = quiet-end (turn-ends q clock verdict room s store) e
 
 -- commissioning is refused with 1 to 3 alone, after which the struct is another
-loud : {g : NewConfig} {s s′ : Coordinator} {store store′ : List ℕ} {n : ℕ} → RefusalLeaves s store (commission g) n s′ store′ → unchanging n ≡ true → ⊥
+loud : {clock : ℕ} {g : NewConfig} {s s′ : Coordinator} {store store′ : List ℕ} {n : ℕ} → RefusalLeaves clock s store (commission g) n s′ store′ → unchanging n ≡ true → ⊥
 loud (commissioning g n l h) e = let past = is-refusal n e .0 in omega arith
 loud (otherwise q n o c) e = absurd (false≢true (sym o))
 
 pub commission-loud : (g : NewConfig) (store : List ℕ) → unchanging (commissionTurn g store .answer .number) ≡ true → ⊥
-commission-loud g store = ended (commission-ends g uncommissionedStruct store)
+commission-loud g store = ended (commission-ends 0 g uncommissionedStruct store)
   where
-    ended : {t : Turn} → Ended (commission g) uncommissionedStruct store t → unchanging (t .answer .number) ≡ true → ⊥
+    ended : {t : Turn} → Ended 0 (commission g) uncommissionedStruct store t → unchanging (t .answer .number) ≡ true → ⊥
     ended {t} (took z k) e = let past = is-refusal (t .answer .number) e .0 in omega arith
     ended (refused r) e = loud r e
 
--- so does a timeout that is answered with nothing
-abbrev pub isNothing : A.Class → Bool
-isNothing A.nothing = true
-isNothing A.packet = false
-isNothing A.job = false
-isNothing A.result = false
-isNothing A.error = false
-
--- a turn that gives the struct back where it is answered with nothing
+-- so does a timeout that is answered with nothing: a turn that gives the struct back where it is answered with nothing
 module _ (clock : ℕ) (s : Coordinator) (store : List ℕ) where
   record Still (t : Turn) : Type 0 where
     still : isNothing (t .answer .class) ≡ true → t .after ≡ s

@@ -28,10 +28,12 @@ use Rattle.calls.specs.Calls.{askingNoJob, askingAJob, setKeyTurn, moveTurn, ag
 use Rattle.calls.specs.Resets.{asksNothing, resetTurn}
 use Rattle.results.specs.Results.{resultsTurn}
 use Rattle.starts.specs.Starts.{askingStart, startTurn}
+use Rattle.arrivals.specs.Query.{askingQuery, arrivalsTurn}
 use Rattle.process_timeout.specs.ProcessTimeout.{askingTimeout, processTimeoutTurn}
 use Rattle.packet_entry.specs.Entries.{entryOf}
 use Rattle.process.specs.Process.{askingPacket, receiveTurn}
-use Rattle.coordinator_theorems.specs.Host.{HostRequest, commission, setKey, takeResults, canMove, start, receive, processTimeout, aggregated, reset}
+use Rattle.coordinator_theorems.specs.Host.{HostRequest, commission, setKey, takeResults, canMove, start, receive, processTimeout}
+use Rattle.coordinator_theorems.specs.Host.{aggregated, reset, tellArrivals}
 use Rattle.coordinator_theorems.specs.Host.{HostRefines, Makeable}
 use Rattle.coordinator_theorems.specs.Host.{HostCall, Host, turnFor, turnOf, hostStep, viewed, hostRun, hostFinal, heldKey, signId, asRequest, asCall, Formed, GivenArrays}
 use Rattle.coordinator_theorems.proofs.Lent.{view-lent, short-asked, short-step}
@@ -100,7 +102,7 @@ module _ (k : HostCall) (x : Host) (formed : Formed (x .struct)) (m : Makeable (
 
 -- too little is lent, call by call
 lent-short : (k : HostCall) (x : Host) → Formed (x .struct) → Makeable (length (x .store)) k → k .lent < storeLength → HostRefines k x
-unfolding turnFor asRequest asCall hostStep stepOf setKeyTurn resultsTurn moveTurn startTurn receiveTurn processTimeoutTurn aggregatedTurn resetTurn
+unfolding turnFor asRequest asCall hostStep stepOf setKeyTurn resultsTurn moveTurn startTurn receiveTurn processTimeoutTurn aggregatedTurn resetTurn arrivalsTurn
 lent-short k x f m l = by (k .request) refl
   where
     given-to : HostRequest → Turn
@@ -137,6 +139,7 @@ lent-short k x f m l = by (k .request) refl
     by processTimeout e = refused A.processTimeout processTimeout e refl (unless-4 _ _ _ _ (short-asked askingTimeout _ (k .room) (x .struct) few))
     by (aggregated ok) e = refused (A.aggregated ok) (aggregated ok) e refl (unless-4 _ _ _ _ (short-asked askingAJob _ 0 (x .struct) few))
     by reset e = refused A.reset reset e refl (unless-4 _ _ _ _ (short-asked asksNothing _ 0 (x .struct) few))
+    by tellArrivals e = refused A.tellArrivals tellArrivals e refl (unless-4 _ _ _ _ (short-asked askingQuery _ (k .room) (x .struct) few))
 
 -- every call, on every struct whose arrays have their lengths, with every store
 pub call-refines : (k : HostCall) (x : Host) → Formed (x .struct) → Makeable (length (x .store)) k → HostRefines k x

@@ -30,6 +30,7 @@ use Rattle.starts.specs.declared.naming.SignId.{SignId}
 use Rattle.starts.specs.declared.naming.SignId.the-variants.{Next, Given}
 use Rattle.starts.specs.declared.naming.Start.{Start}
 use Rattle.starts.specs.Starts.{startTurn}
+use Rattle.arrivals.specs.Query.{arrivalsTurn}
 use Rattle.process_timeout.specs.ProcessTimeout.{processTimeoutTurn}
 use Rattle.packet_entry.specs.declared.Entry.{Entry}
 use Rattle.packet_entry.specs.Entries.{entryOf}
@@ -46,6 +47,7 @@ pub data HostRequest : Type 0 where
   processTimeout : HostRequest
   aggregated : Bool → HostRequest
   reset : HostRequest
+  tellArrivals : HostRequest
 
 -- the clock reading, the host's verdict on the packet's seal, how many bytes of the store are lent, and the answer buffer's length
 pub record HostCall : Type 0 where
@@ -71,6 +73,7 @@ turnFor (receive entry p) clock verdict room s store = receiveTurn entry clock v
 turnFor processTimeout clock verdict room s store = processTimeoutTurn clock room s store
 turnFor (aggregated ok) clock verdict room s store = aggregatedTurn ok s store
 turnFor reset clock verdict room s store = resetTurn s store
+turnFor tellArrivals clock verdict room s store = arrivalsTurn room s store
 
 -- "A call is lent as much of the store as its length says"
 abbrev pub turnOf : HostCall → Host → Turn
@@ -121,6 +124,7 @@ asRequest (receive entry p) = A.other (A.receive (entryOf entry) p)
 asRequest processTimeout = A.other A.processTimeout
 asRequest (aggregated ok) = A.other (A.aggregated ok)
 asRequest reset = A.other A.reset
+asRequest tellArrivals = A.other A.tellArrivals
 
 unfoldable pub asCall : HostCall → A.Call
 asCall k =
@@ -145,6 +149,7 @@ GivenArrays (receive entry p) = Unit {0}
 GivenArrays processTimeout = Unit {0}
 GivenArrays (aggregated ok) = Unit {0}
 GivenArrays reset = Unit {0}
+GivenArrays tellArrivals = Unit {0}
 
 -- a call that a host with a store of n bytes can make: it lends no more than there is
 pub record Makeable (n : ℕ) (k : HostCall) : Type 0 where

@@ -27,7 +27,8 @@ use Rattle.timeouts.specs.NonceTimeout.{currentPlace}
 use Rattle.starts.specs.declared.naming.Start.{Start}
 use Rattle.starts.specs.Starts.{signIdOf}
 use Rattle.packet_entry.specs.declared.Entry.{Entry}
-use Rattle.coordinator_theorems.specs.Host.{HostRequest, commission, setKey, takeResults, canMove, start, receive, processTimeout, aggregated, reset}
+use Rattle.coordinator_theorems.specs.Host.{HostRequest, commission, setKey, takeResults, canMove, start, receive, processTimeout}
+use Rattle.coordinator_theorems.specs.Host.{aggregated, reset, tellArrivals}
 
 -- the numbers after which something may differ: 1 to 3, 10, 11, 20 to 23
 abbrev pub changing : ℕ → Bool
@@ -45,7 +46,7 @@ signedAs n ids = record { «dkg_id» = ids .«dkg_id»; «sign_id» = n; «sign_
 
 -- the slot i of the record r no longer waits; nothing else of the records differs
 abbrev pub unawaited : ResponseSlot → ResponseSlot
-unawaited x = record { held = x .held; waits = false; ids = x .ids; «key_ids» = x .«key_ids»; nonces = x .nonces }
+unawaited x = record { held = x .held; waits = false; ids = x .ids; «key_ids» = x .«key_ids»; nonces = x .nonces; clock = x .clock }
 
 abbrev pub waiterOff : ℕ → ℕ → Records → Records
 waiterOff r i rs =
@@ -63,39 +64,40 @@ commissions (receive entry p) = false
 commissions processTimeout = false
 commissions (aggregated ok) = false
 commissions reset = false
+commissions tellArrivals = false
 
--- the struct and the lent store after a call that was refused with this number; s and store are those before it
-pub data RefusalLeaves (s : Coordinator) (store : List ℕ) : HostRequest → ℕ → Coordinator → List ℕ → Type 0 where
+-- the struct and the lent store after a call, at this clock reading, that was refused with this number; s and store are those before it
+pub data RefusalLeaves (clock : ℕ) (s : Coordinator) (store : List ℕ) : HostRequest → ℕ → Coordinator → List ℕ → Type 0 where
   -- "After 1 to 3 the state is uncommissioned and the store untouched."
-  commissioning : (g : NewConfig) (n : ℕ) → 1 ≤ n → n ≤ 3 → RefusalLeaves s store (commission g) n uncommissionedStruct store
+  commissioning : (g : NewConfig) (n : ℕ) → 1 ≤ n → n ≤ 3 → RefusalLeaves clock s store (commission g) n uncommissionedStruct store
   -- "10 on an Idle packet, the iteration", which is the packet's number minus 1, wrapping
   idle :
       (entry : Entry) (p : List ℕ) → phaseOf (s .position .state) ≡ idling → headerIn p .kind ≡ 1
-      → RefusalLeaves s store (receive entry p) 10 (setIds (iteratedTo (previous (headerIn p .ids .«sign_iter_id»)) (s .ids)) s) store
+      → RefusalLeaves clock s store (receive entry p) 10 (setIds (iteratedTo (previous (headerIn p .ids .«sign_iter_id»)) (s .ids)) s) store
   -- "(on a start call, nothing)"
-  unheld : (m : List ℕ) (by : Start) → RefusalLeaves s store (start m by) 10 s store
-  -- "10 in NonceGather, the record made and the message": the packet's, in the slot of its signer
+  unheld : (m : List ℕ) (by : Start) → RefusalLeaves clock s store (start m by) 10 s store
+  -- "10 in NonceGather, the record made and the message": the packet's, in the slot of its signer, with the call's clock reading (02, e)
   gathering :
       (entry : Entry) (p : List ℕ) (t : SignatureType) (r i : ℕ) → phaseOf (s .position .state) ≡ gatheringNonces t → headerIn p .kind ≡ 2
       → r ≡ recordPlace (partAt p 32) (s .records) store → slotOf (headerIn p .«signer_id») (s .config) ≡ some i
-      → RefusalLeaves s store (receive entry p) 10
+      → RefusalLeaves clock s store (receive entry p) 10
       (setMessage (over (partAt p 32) (s .message))
-      (setRecords (addedRecords r i (headerIn p .ids) (partAt p 32) (partAt p 40) (partAt p 48) (s .records)) s))
+      (setRecords (addedRecords clock r i (headerIn p .ids) (partAt p 32) (partAt p 40) (partAt p 48) (s .records)) s))
       (addedStore r i (partAt p 32) (partAt p 40) (partAt p 48) (s .records) store)
   -- "11, message and sign id"
   unmoved :
       (m : List ℕ) (by : Start)
-      → RefusalLeaves s store (start m by) 11
+      → RefusalLeaves clock s store (start m by) 11
       (setIds (signedAs (signIdOf (by .«sign_id») (s .ids .«sign_id»)) (s .ids)) (setMessage (over m (s .message)) s)) store
   -- "20 to 22, the waiter", in the record of the current message
   waiter :
       (entry : Entry) (p : List ℕ) (t : SignatureType) (n r i : ℕ) → phaseOf (s .position .state) ≡ gatheringShares t
       → headerIn p .kind ≡ 4 → 20 ≤ n → n ≤ 22 → r ≡ currentPlace s store → slotOf (headerIn p .«signer_id») (s .config) ≡ some i
-      → RefusalLeaves s store (receive entry p) n (setRecords (waiterOff r i (s .records)) s) store
+      → RefusalLeaves clock s store (receive entry p) n (setRecords (waiterOff r i (s .records)) s) store
   -- "23, the job is no longer out"
-  failed : RefusalLeaves s store (aggregated false) 23 (setJob false s) store
+  failed : RefusalLeaves clock s store (aggregated false) 23 (setJob false s) store
   -- "Otherwise nothing."
-  otherwise : (q : HostRequest) (n : ℕ) → commissions q ≡ false → changing n ≡ false → RefusalLeaves s store q n s store
+  otherwise : (q : HostRequest) (n : ℕ) → commissions q ≡ false → changing n ≡ false → RefusalLeaves clock s store q n s store
 
 -- the n bytes from `at` on lie before the `size` bytes from b on, or behind them
 abbrev pub Apart : ℕ → ℕ → ℕ → ℕ → Type 0
@@ -126,3 +128,4 @@ stores (receive entry p) = true
 stores processTimeout = false
 stores (aggregated ok) = false
 stores reset = false
+stores tellArrivals = false

@@ -4,3 +4,4 @@ pub mod Lawful
 pub mod Writing
 pub mod Reading
 pub mod Updates
+pub mod Moved

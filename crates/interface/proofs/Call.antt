@@ -25,7 +25,9 @@ use Rattle.state_bytes.specs.Loaded.{isSaved, loaded}
 use Rattle.state_bytes.proofs.Loads.{load-put, saved-bytes}
 use Rattle.interface.specs.declared.answers.RcAnswer.{RcAnswer}
 use Rattle.interface.specs.declared.loads.Loaded.{Loaded}
-use Rattle.interface.specs.Answers.{classNumber, classOf, flat, told, unchanging, isNothing, quiet}
+use Rattle.step_definition.specs.Calls.{isNothing}
+use Rattle.step_definition.specs.Refusals.{unchanging}
+use Rattle.interface.specs.Answers.{classNumber, classOf, flat, told, quiet}
 use Rattle.interface.specs.Called.{Called}
 
 class-told : (k : Class) → classOf (classNumber k) ≡ T.classOf k
@@ -58,6 +60,14 @@ long-saved b y = leb-true stateLength (length b) (and-left (leb stateLength (len
 
 saved-over : (b : List ℕ) → isSaved b ≡ true → put b 0 (saved (loaded b)) ≡ b
 saved-over b y = put-itself b (saved (loaded b)) stateLength (long-saved b y) (saved-bytes b y)
+
+-- saving over bytes what they count as leaves them as they are
+pub resaved : (b : List ℕ) → cond (isSaved b) (put b 0 (saved (loaded b))) b ≡ b
+resaved b = by (isSaved b) refl
+  where
+    by : (y : Bool) → isSaved b ≡ y → cond y (put b 0 (saved (loaded b))) b ≡ b
+    by true e = saved-over b e
+    by false e = refl
 
 -- what keep promises
 abbrev pub Kept : Bool → Bool → List ℕ → Done → RcAnswer → List ℕ → Type 0
@@ -102,3 +112,23 @@ module _ {state out state′ store′ out′ : List ℕ} {r : RcAnswer} {d : Don
       rw (← e .0, ← e .1)
       (called (from .saved) still (f (from .state)) did kept
       (λ w q. rw (back (from .state) q, e .1) (saved-over state (sym (e .0) ∙ w))))
+
+module _ {state out store′ out′ : List ℕ} {r : RcAnswer} {d : Done} where
+  -- a call that gives the struct back whatever it answers, and writes nothing over its bytes
+  pub call-still :
+      (f : Coordinator → Turn) (from : Loaded) →
+      (from .saved ≡ isSaved state) × (from .state ≡ loaded state) →
+      Did (f (from .state)) out d store′ out′ →
+      r ≡ flat (d .answer) →
+      ((s : Coordinator) → f s .after ≡ s) →
+      Called (isSaved state) (f (loaded state)) state out r state store′ out′
+  call-still f from e did said back =
+      let here : Did (f (loaded state)) out d store′ out′ = rw (e .1) at did in
+      record {
+        exact = said ∙ ap flat (here .exact);
+        answered = rw said (told-flat (d .answer) out′ ∙ here .answered);
+        kept = rw (back (loaded state)) (sym (resaved state));
+        loads = λ y l. sym (back (loaded state));
+        stored = here .stored;
+        buffered = here .buffered;
+      }

@@ -1,10 +1,11 @@
 -- An answer as plain numbers, and the answer that plain numbers and a buffer tell.
 use Prim.Native.Nat.{ℕ}
-use mathlib.Core.Bool.{Bool, true, false, cond, not, _&&_, _||_}
+use mathlib.Core.Bool.{Bool, cond, _&&_, _||_}
 use mathlib.Core.List.{List, [], _∷_}
-use lib.Dec.{eqb, leb}
+use lib.Dec.{eqb}
 use lib.ListN.{take}
 use Rattle.step_definition.specs.Calls as A
+use Rattle.step_definition.specs.Refusals.{unchanging}
 use Rattle.state.specs.declared.answers.Class.{Class}
 use Rattle.state.specs.declared.answers.Class.the-variants.{Nothing, Packet, Job, Result, Error}
 use Rattle.state.specs.declared.answers.Answer.{Answer}
@@ -29,20 +30,10 @@ flat a =
       length = a .length;
     }
 
--- Which answers tell that a call gave back the struct that it was given: a refusal's number after which nothing differs (not 1 to 3, 10, 11, 20 to 23);
--- and, of calls of which it is known (`still`), that they answer nothing.
-abbrev pub unchanging : ℕ → Bool
-unchanging n = not (leb n 3 || (eqb n 10 || (eqb n 11 || (leb 20 n && leb n 23))))
-
-abbrev pub isNothing : A.Class → Bool
-isNothing A.nothing = true
-isNothing A.packet = false
-isNothing A.job = false
-isNothing A.result = false
-isNothing A.error = false
-
+-- Which answers tell that a call gave back the struct that it was given: a refusal's number after which nothing differs; and, of calls of
+-- which it is known (`still`), that they answer nothing.
 abbrev pub quiet : Bool → A.Answer → Bool
-quiet still a = (still && isNothing (a .class)) || unchanging (a .number)
+quiet still a = (still && A.isNothing (a .class)) || unchanging (a .number)
 
 -- the class of a number; one that no answer has counts as nothing
 unfoldable pub classOf : ℕ → A.Class

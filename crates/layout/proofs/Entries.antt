@@ -15,7 +15,7 @@ use Rattle.wire.proofs.Numbers.{length-le, number-le, le-number, number-lt, num
 use Rattle.wire.proofs.Fields.{part-read, part-next, part-back, field-read, field-next, field-back}
 use Rattle.wire.proofs.Lists.{all-imp, all-map, map-back, length-joined, and-left, and-right, and-both}
 use Rattle.layout.specs.Messages.{Nonce, SignatureShare}
-use Rattle.layout.specs.Encode.{idBytes, nonceBytes, shareBytes}
+use Rattle.layout.specs.Encode.{idBytes, clockBytes, nonceBytes, shareBytes}
 use Rattle.layout.specs.LaidOut.{wholeEntries, wholeShare}
 use Rattle.layout.specs.Decode.{entries, idsIn, nonceIn, noncesIn, shareIn}
 use Rattle.layout.specs.Fits.{Sized, NonceFits, IdsListed, ShareFits}
@@ -91,13 +91,21 @@ id-back p h = rw (← h .size) (le-number p (h .bytes))
 id-fits : (p : List ℕ) → Sized 4 p → number p < 2 ^ 32
 id-fits p h = rw (h .size) at (number-lt p (h .bytes))
 
-pub length-idBytes : (ids : List ℕ) → length (idBytes ids) ≡ length ids * 4
-unfolding idBytes
-length-idBytes ids = length-list 4 (omega arith) (le 4) number (λ k. Unit) (λ k h. length-le 4 k) ids (all ids)
+-- numbers of w bytes each
+length-numbers : (w : ℕ) → 0 < w → (ns : List ℕ) → length (joined (map (le w) ns)) ≡ length ns * w
+length-numbers w positive ns = length-list w positive (le w) number (λ k. Unit) (λ k h. length-le w k) ns (all ns)
   where
     all : (xs : List ℕ) → All (λ (k : ℕ). Unit) xs
     all [] = tt
     all (x ∷ xs) = (tt, all xs)
+
+pub length-idBytes : (ids : List ℕ) → length (idBytes ids) ≡ length ids * 4
+unfolding idBytes
+length-idBytes ids = length-numbers 4 (omega arith) ids
+
+pub length-clockBytes : (clocks : List ℕ) → length (clockBytes clocks) ≡ length clocks * 8
+unfolding clockBytes
+length-clockBytes clocks = length-numbers 8 (omega arith) clocks
 
 pub whole-ids : (ids : List ℕ) → wholeEntries 4 (idBytes ids) ≡ true
 unfolding wholeEntries

@@ -1,4 +1,4 @@
--- The lengths of the packets that go out, by the lengths of their lists: kinds 1 and 3, and 32 to 34.
+-- The lengths of the packets that go out, by the lengths of their lists: kinds 1 and 3, and 32 to 35.
 -- Assumes nothing.
 use Prim.Native.Nat.{ℕ, _+_, _*_, _≤_}
 use mathlib.Core.Path.{_≡_}
@@ -9,13 +9,13 @@ use lib.ListN.{length, length-append, length-map}
 use Rattle.wire.specs.Bytes.{joined, All}
 use Rattle.wire.proofs.Lists.{all-imp, all-map, length-joined-le}
 use Rattle.layout.specs.Limits.{messageLimit, signerLimit, answerLength}
-use Rattle.layout.specs.Messages.{Nonce, NonceRequest, NonceResponse, SignatureShare, SignatureShareRequest, Job}
+use Rattle.layout.specs.Messages.{Nonce, NonceRequest, NonceResponse, SignatureShare, SignatureShareRequest, Job, Arrival}
 use Rattle.layout.specs.Messages.{nonceRequest, signatureShareRequest}
 use Rattle.layout.specs.Encode.{shareBytes, encodeResponse, header, parts, encode}
-use Rattle.layout.specs.Encode.{encodeJob, encodeNonceTimeout, encodeInsufficientSigners}
+use Rattle.layout.specs.Encode.{encodeJob, encodeNonceTimeout, encodeInsufficientSigners, encodeArrivals}
 use Rattle.layout.specs.Decode.{responseWithin, keyCount}
 use Rattle.layout.specs.Fits.{NonceFits, ShareFits, ResponseFits}
-use Rattle.layout.proofs.Entries.{length-idBytes, length-nonces}
+use Rattle.layout.proofs.Entries.{length-idBytes, length-clockBytes, length-nonces}
 use Rattle.layout.proofs.Frame.{length-packet}
 use Rattle.layout.proofs.Limits.{response-length, shares-length}
 
@@ -76,3 +76,7 @@ nonce-timeout-length waiters malicious = rw length-packet (simp (length-append, 
 pub insufficient-signers-length : (malicious : List ℕ) → length (encodeInsufficientSigners malicious) ≡ 40 + 4 * length malicious
 unfolding encodeInsufficientSigners joined
 insufficient-signers-length malicious = rw length-packet (simp (length-append, length-idBytes) (omega arith))
+
+pub arrivals-length : (arrivals : List Arrival) → length (encodeArrivals arrivals) ≡ 48 + 12 * length arrivals
+unfolding encodeArrivals joined
+arrivals-length arrivals = rw length-packet (simp (length-append, length-idBytes, length-clockBytes, length-map) (omega arith))

@@ -6,7 +6,7 @@ use Rattle.wire.specs.Bytes.{le, joined}
 use Rattle.layout.specs.declared.Header.{Header}
 use Rattle.layout.specs.declared.Ids.{Ids}
 use Rattle.layout.specs.Types.{typeNumber}
-use Rattle.layout.specs.Messages.{Nonce, SignatureShare, NonceResponse, Job, Message}
+use Rattle.layout.specs.Messages.{Nonce, SignatureShare, NonceResponse, Job, Arrival, Message}
 use Rattle.layout.specs.Messages.{nonceRequest, nonceResponse, signatureShareRequest, signatureShareResponse, dkgBegin}
 use Rattle.layout.specs.Messages.{dkgSigner, dkgCoordinator}
 
@@ -97,3 +97,18 @@ encodeNonceTimeout waiters malicious = packet (headerOf 33 0 2 0 noIds) (idBytes
 -- "34 InsufficientSigners (struck)"
 unfoldable pub encodeInsufficientSigners : List ℕ → List ℕ
 encodeInsufficientSigners malicious = packet (headerOf 34 0 1 0 noIds) (idBytes malicious ∷ [])
+
+-- "35, with two parts: .. responder ids ascending, and their readings, eight bytes each" (02, e)
+abbrev pub arrivalSigner : Arrival → ℕ
+arrivalSigner a = a .signer-id
+
+abbrev pub arrivalClock : Arrival → ℕ
+arrivalClock a = a .clock
+
+unfoldable pub clockBytes : List ℕ → List ℕ
+clockBytes clocks = joined (map (le 8) clocks)
+
+-- "Like 33 and 34, this and later out-only kinds have only their parts."
+unfoldable pub encodeArrivals : List Arrival → List ℕ
+encodeArrivals arrivals =
+    packet (headerOf 35 0 2 0 noIds) (idBytes (map arrivalSigner arrivals) ∷ (clockBytes (map arrivalClock arrivals) ∷ []))

@@ -60,3 +60,8 @@ pub record Job : Type 0 where
   pub key-ids : List ℕ
   pub nonces : List Nonce
   pub signature-shares : List SignatureShare
+
+-- 02, e): "Each recorded nonce response keeps the clock reading of its call": whose it is, and the reading
+pub record Arrival : Type 0 where
+  pub signer-id : ℕ
+  pub clock : ℕ

@@ -16,7 +16,7 @@ use Rattle.starts.specs.declared.naming.SignId.{SignId}
 use Rattle.starts.specs.declared.naming.Start.{Start}
 use Rattle.starts.specs.Starts.{startTurn}
 use Rattle.state_bytes.specs.Description.{stateFor}
-use Rattle.interface.specs.Answers.{unchanging}
+use Rattle.step_definition.specs.Refusals.{unchanging}
 use Rattle.coordinator_theorems.specs.Host.{start, turnFor}
 use Rattle.coordinator_theorems.proofs.Quiet.{refused-quiet}
 use Rattle.library_start.specs.Given.{rootGiven, typeSaid, lastState, startedTurn, movedTurn}

@@ -23,6 +23,7 @@ use Rattle.state_bytes.specs.Loaded.{isSaved, loaded, unsaved}
 use Rattle.state_bytes.proofs.Loads.{unsaved-loaded, unsaved-uncommissioned}
 use Rattle.state_bytes.proofs.Front.{loaded-front}
 use Rattle.interface.specs.Configs.{isYes}
+use Rattle.interface.proofs.Call.{resaved}
 use Rattle.coordinator_theorems.specs.Host.{HostCall, Host, turnFor, turnOf, hostStep, viewed, hostRun, hostFinal, asCall, GivenArrays, Makeable}
 use Rattle.coordinator_theorems.specs.Refusals.{changing}
 use Rattle.coordinator_theorems.proofs.Leaves.{turn-unchanged}
@@ -31,7 +32,7 @@ use Rattle.coordinator_theorems.proofs.Refines.{step-formed, run-refines}
 use Rattle.library_theorems.specs.Library.{Buffers, counted, LibraryCall, requestOf, isSaid, commissions, libraryTurn, saves, Made, Ran}
 use Rattle.library_theorems.specs.Library.{outright, hostCall, lendingNothing, asHost, numbered, numberedIn}
 use Rattle.library_theorems.proofs.Unsaved.{uncommissioned-turn}
-use Rattle.library_theorems.proofs.Outright.{Outright, unsaid, short, long, outright-case, resaved, refused-turn, refused-saves}
+use Rattle.library_theorems.proofs.Outright.{Outright, unsaid, short, long, outright-case, refused-turn, refused-saves}
 use Rattle.library_theorems.proofs.Formed.{loaded-formed}
 
 said-long : (k : LibraryCall) {o : Option ℕ} → Outright k o → o ≡ none → (isSaid (k .request) ≡ true) × (stateLength ≤ k .state)

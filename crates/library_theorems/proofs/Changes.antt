@@ -29,26 +29,26 @@ use Rattle.library_theorems.proofs.Calls.{outright-kept, taken-answer, 
 use Rattle.library_theorems.proofs.Formed.{loaded-formed}
 
 -- a timeout that is refused changes nothing of what is held
-timeout-refused : (n : ℕ) (h : Held) → afterRefusal n (A.other A.processTimeout) h ≡ h
+timeout-refused : (clock n : ℕ) (h : Held) → afterRefusal clock n (A.other A.processTimeout) h ≡ h
 unfolding afterRefusal heldAfter changedIn
-timeout-refused n uncommissioned = refl
-timeout-refused n miscounted = refl
-timeout-refused n (commissioned c) = refl
+timeout-refused clock n uncommissioned = refl
+timeout-refused clock n miscounted = refl
+timeout-refused clock n (commissioned c) = refl
 
 module _ (k : LibraryCall) (b : Buffers) {a : A.Answer} {c : Buffers} (m : Made k b a c) where
   -- a refusal changes exactly what 01 lists, nothing where it is outright, and writes no byte
   pub library-refusal-changes :
       (n : ℕ) → a .number ≡ suc n
-      → (viewed (counted c) ≡ afterRefusal (suc n) (asRequest (asHost k .request)) (viewed (counted b))) × (a .bytes ≡ [])
+      → (viewed (counted c) ≡ afterRefusal (k .clock) (suc n) (asRequest (asHost k .request)) (viewed (counted b))) × (a .bytes ≡ [])
   unfolding asHost asRequest
   library-refusal-changes n e = by (outright k) refl
     where
       by : (o : Option ℕ) → outright k ≡ o
-          → (viewed (counted c) ≡ afterRefusal (suc n) (asRequest (given o (λ (n : ℕ). lendingNothing k) (hostCall k) .request)) (viewed (counted b)))
+          → (viewed (counted c) ≡ afterRefusal (k .clock) (suc n) (asRequest (given o (λ (n : ℕ). lendingNothing k) (hostCall k) .request)) (viewed (counted b)))
           × (a .bytes ≡ [])
       by (some r) is =
           let kept = outright-kept k b m r is in (
-            ap (λ (x : Buffers). viewed (counted x)) (kept .1) ∙ sym (timeout-refused (suc n) (viewed (counted b))),
+            ap (λ (x : Buffers). viewed (counted x)) (kept .1) ∙ sym (timeout-refused (k .clock) (suc n) (viewed (counted b))),
             ap (λ (x : A.Answer). x .bytes) (kept .0),
           )
       by none is =
@@ -61,13 +61,13 @@ module _ (k : LibraryCall) (b : Buffers) {a : A.Answer} {c : Buffers} (m : Made 
   -- a refusal leaves of the struct that the bytes count as, and of the lent bytes of the store, exactly what `RefusalLeaves` says; the others stay
   pub library-refusal-leaves :
       outright k ≡ none → (n : ℕ) → a .number ≡ suc n
-      → RefusalLeaves (loaded (b .state)) (take (k .lent) (b .store)) (requestOf (k .request)) (suc n) (loaded (c .state)) (take (k .lent) (c .store))
+      → RefusalLeaves (k .clock) (loaded (b .state)) (take (k .lent) (b .store)) (requestOf (k .request)) (suc n) (loaded (c .state)) (take (k .lent) (c .store))
       × (drop (k .lent) (c .store) ≡ drop (k .lent) (b .store))
   unfolding asHost
   library-refusal-leaves is n e =
       let made : Makeable (length (b .store)) (hostCall k) = record { given = m .arrays; lent = m .lends-store } in
       let number = sym (ap (λ (x : A.Answer). x .number) (taken-answer k b m is)) ∙ e in
-      subst (λ (x : Host). RefusalLeaves (loaded (b .state)) (take (k .lent) (b .store)) (requestOf (k .request)) (suc n) (x .struct) (take (k .lent) (x .store))
+      subst (λ (x : Host). RefusalLeaves (k .clock) (loaded (b .state)) (take (k .lent) (b .store)) (requestOf (k .request)) (suc n) (x .struct) (take (k .lent) (x .store))
       × (drop (k .lent) (x .store) ≡ drop (k .lent) (b .store))) (sym (taken-step k b m is))
       (host-refusal-leaves (hostCall k) (counted b) made n number)
 

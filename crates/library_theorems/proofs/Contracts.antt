@@ -34,9 +34,11 @@ use Rattle.roundcabinet.proofs.rc_process_timeout as rc_process_timeout
 use Rattle.roundcabinet.proofs.rc_aggregated as rc_aggregated
 use Rattle.roundcabinet.proofs.rc_reset as rc_reset
 use Rattle.roundcabinet.proofs.rc_can_move_to as rc_can_move_to
+use Rattle.roundcabinet.proofs.rc_tell_arrivals as rc_tell_arrivals
 use Rattle.roundcabinet.proofs.rc_write_nonce_response as rc_write_nonce_response
 use Rattle.roundcabinet.proofs.rc_write_signature_share_response as rc_write_signature_share_response
-use Rattle.library_theorems.specs.Library.{LibraryRequest, commission, setKey, takeResults, startSigningRound, receive, processTimeout, aggregated, reset, canMoveTo}
+use Rattle.library_theorems.specs.Library.{LibraryRequest, commission, setKey, takeResults, startSigningRound, receive}
+use Rattle.library_theorems.specs.Library.{processTimeout, aggregated, reset, tellArrivals, canMoveTo}
 use Rattle.library_theorems.specs.Library.{requestOf, isSaid, libraryTurn, saves, Gave}
 use Rattle.library_theorems.specs.Responses.{WroteNonceResponse, WroteShareResponse}
 
@@ -129,6 +131,14 @@ module _ (w : World) (state store : RefT (List ℕ)) where
         ≡ promising w rc_process_timeout.ended κs (λ r e. Writes processTimeout verdict r (now (e .0)) (now store) (now (e .1 .1 .0)))
     unfolding libraryTurn isSaid saves requestOf turnFor
     process-timeout-is κs verdict = refl
+
+    -- the query is lent the state to read
+    pub tell-arrivals-is :
+        (κs : Lfts 3) (verdict : ℕ)
+        → at w rc_tell_arrivals.clauses κs (state, (store, (out, tt)))
+        ≡ promising w rc_tell_arrivals.ended κs (λ r e. Writes tellArrivals verdict r (now state) (now store) (now (e .1 .1 .0)))
+    unfolding libraryTurn isSaid saves requestOf turnFor
+    tell-arrivals-is κs verdict = refl
 
 -- a signer's writers, for C and for a host in Rattle: they are lent a buffer, and no state
 module _ (w : World) (out message key-ids nonces : RefT (List ℕ)) where

@@ -24,7 +24,8 @@ use Rattle.interface.proofs.configs.RcConfig as RcConfig-row
 use Rattle.library_start.specs.Given.{rootGiven}
 use Rattle.coordinator_theorems.specs.Host.{Formed, GivenArrays}
 use Rattle.coordinator_theorems.specs.Demand3.{Fits}
-use Rattle.library_theorems.specs.Library.{LibraryRequest, commission, setKey, takeResults, startSigningRound, receive, processTimeout, aggregated, reset, canMoveTo}
+use Rattle.library_theorems.specs.Library.{LibraryRequest, commission, setKey, takeResults, startSigningRound, receive}
+use Rattle.library_theorems.specs.Library.{processTimeout, aggregated, reset, tellArrivals, canMoveTo}
 use Rattle.library_theorems.specs.Library.{requestOf, commissions}
 
 module _ {A : Type 0} (f : List ℕ → ℕ → A) (w : ℕ) (s : List ℕ) where
@@ -116,4 +117,5 @@ other-arrays (receive entry p) e = tt
 other-arrays processTimeout e = tt
 other-arrays (aggregated ok) e = tt
 other-arrays reset e = tt
+other-arrays tellArrivals e = tt
 other-arrays (canMoveTo next t root) e = root-given-length root

@@ -1,26 +1,22 @@
 -- What C can say and 01's calls can't: which number it gets, and that it changes nothing.
 -- Assumes nothing.
 use Prim.Native.Nat.{ℕ, _≤_, _<_}
-use mathlib.Core.Path.{_≡_, refl, sym, ap, _∙_}
+use mathlib.Core.Path.{_≡_, refl, ap, _∙_}
 use mathlib.Core.Bool.{Bool, true, false, cond}
-use mathlib.Core.List.{List, [], _++_}
+use mathlib.Core.List.{List}
 use mathlib.Core.Option.{Option, some, none}
 use native.Mathlib.Omega.{arith}
 use borrow.Author.Tests.{lt-leb, leb-true, leb-false}
 use lib.Dec.{leb}
-use lib.ListN.{length, take, drop, length-take, take-append-drop}
-use lib.Seq.{length-take-le}
-use Rattle.wire.specs.Bytes.{put}
-use Rattle.wire.proofs.Lists.{and-left}
-use Rattle.wire.proofs.Buffer.{put-inside}
+use lib.ListN.{length}
 use Rattle.state.specs.Turns.{Turn, errorTurn}
 use Rattle.state_bytes.specs.Saved.{stateLength}
-use Rattle.state_bytes.specs.Saved.{saved}
 use Rattle.state_bytes.specs.Loaded.{isSaved, loaded, unsaved}
-use Rattle.state_bytes.proofs.Loads.{unsaved-loaded, unsaved-uncommissioned, saved-bytes}
+use Rattle.state_bytes.proofs.Loads.{unsaved-loaded, unsaved-uncommissioned}
 use Rattle.state_bytes.proofs.Front.{short-unsaved}
 use Rattle.interface.specs.Configs.{isYes}
-use Rattle.library_theorems.specs.Library.{LibraryRequest, commission, setKey, takeResults, startSigningRound, receive, processTimeout, aggregated, reset, canMoveTo}
+use Rattle.library_theorems.specs.Library.{LibraryRequest, commission, setKey, takeResults, startSigningRound, receive}
+use Rattle.library_theorems.specs.Library.{processTimeout, aggregated, reset, tellArrivals, canMoveTo}
 use Rattle.library_theorems.specs.Library.{LibraryCall, requestOf, isSaid, commissions, libraryTurn, saves, outright}
 use Rattle.library_theorems.proofs.Unsaved.{uncommissioned-turn}
 
@@ -50,20 +46,8 @@ unsaid-other (receive entry p) e = refl
 unsaid-other processTimeout e = refl
 unsaid-other (aggregated ok) e = refl
 unsaid-other reset e = refl
+unsaid-other tellArrivals e = refl
 unsaid-other (canMoveTo next t root) e = refl
-
--- saving over bytes what they count as leaves them as they are
-pub resaved : (b : List ℕ) → cond (isSaved b) (put b 0 (saved (loaded b))) b ≡ b
-unfolding isSaved
-resaved b = by (isSaved b) refl
-  where
-    by : (y : Bool) → isSaved b ≡ y → cond y (put b 0 (saved (loaded b))) b ≡ b
-    by false e = refl
-    by true e =
-        let l : stateLength ≤ length b = leb-true _ _ (and-left (leb stateLength (length b)) _ e) in
-        let n : length (take stateLength b) ≡ stateLength = length-take-le stateLength b l in
-        rw (← saved-bytes b e)
-        (put-inside b 0 (take stateLength b) (rw n (omega arith)) ∙ rw n (take-append-drop stateLength b))
 
 -- state: the bytes that are lent, as many as the call says
 module _ (k : LibraryCall) (state store : List ℕ) (lent : length state ≡ k .state) where

@@ -11,10 +11,12 @@ use Rattle.state.specs.Turns.{Turn, asked, askedIf, unless, errorTurn}
 use Rattle.calls.specs.Calls.{setKeyTurn, moveTurn, aggregatedTurn}
 use Rattle.calls.specs.Resets.{resetTurn}
 use Rattle.results.specs.Results.{resultsTurn}
+use Rattle.arrivals.specs.Query.{arrivalsTurn}
 use Rattle.starts.specs.Starts.{startTurn}
 use Rattle.process_timeout.specs.ProcessTimeout.{processTimeoutTurn}
 use Rattle.process.specs.Process.{receiveTurn}
-use Rattle.coordinator_theorems.specs.Host.{HostRequest, commission, setKey, takeResults, canMove, start, receive, processTimeout, aggregated, reset}
+use Rattle.coordinator_theorems.specs.Host.{HostRequest, commission, setKey, takeResults, canMove, start, receive, processTimeout}
+use Rattle.coordinator_theorems.specs.Host.{aggregated, reset, tellArrivals}
 use Rattle.coordinator_theorems.specs.Host.{turnFor}
 use Rattle.coordinator_theorems.specs.Refusals.{commissions}
 
@@ -24,7 +26,7 @@ module _ (clock : ℕ) (verdict : Bool) (room : ℕ) (s : Coordinator) (store : 
   refused a size room rest = rw none
 
   pub uncommissioned-turn : (q : HostRequest) → commissions q ≡ false → turnFor q clock verdict room s store ≡ errorTurn 4 s store
-  unfolding turnFor setKeyTurn resultsTurn moveTurn startTurn receiveTurn processTimeoutTurn aggregatedTurn resetTurn
+  unfolding turnFor setKeyTurn resultsTurn moveTurn startTurn receiveTurn processTimeoutTurn aggregatedTurn resetTurn arrivalsTurn
   uncommissioned-turn (commission g) e = let z : _≡_ {A = ℕ} 0 1 = cc in let f : ⊥ = omega arith in absurd f
   uncommissioned-turn (setKey which held) e = refused _ _ _ _
   uncommissioned-turn (takeResults dkg ended) e = refused _ _ _ _
@@ -34,3 +36,4 @@ module _ (clock : ℕ) (verdict : Bool) (room : ℕ) (s : Coordinator) (store : 
   uncommissioned-turn processTimeout e = refused _ _ _ _
   uncommissioned-turn (aggregated ok) e = refused _ _ _ _
   uncommissioned-turn reset e = refused _ _ _ _
+  uncommissioned-turn tellArrivals e = refused _ _ _ _

@@ -48,6 +48,7 @@ pub data LibraryRequest : Type 0 where
   processTimeout : LibraryRequest
   aggregated : ℕ → LibraryRequest
   reset : LibraryRequest
+  tellArrivals : LibraryRequest
   canMoveTo : ℕ → ℕ → List ℕ → LibraryRequest
 
 -- with the clock reading, the verdict on the packet's seal, how many bytes of state and store are lent, and the answer buffer's length; a
@@ -71,6 +72,7 @@ requestOf (receive entry p) = H.receive entry p
 requestOf processTimeout = H.processTimeout
 requestOf (aggregated ok) = H.aggregated (isYes ok)
 requestOf reset = H.reset
+requestOf tellArrivals = H.tellArrivals
 requestOf (canMoveTo next t root) = H.canMove (stateFor next (typeOf t)) (rootGiven root)
 
 -- whether its numbers are some that 01's call can say
@@ -83,6 +85,7 @@ isSaid (receive entry p) = true
 isSaid processTimeout = true
 isSaid (aggregated ok) = true
 isSaid reset = true
+isSaid tellArrivals = true
 isSaid (canMoveTo next t root) = leb next lastState && typeSaid t root
 
 -- commissioning is the one call that takes bytes that no save left

@@ -3,7 +3,7 @@
 use Prim.Native.Nat.{ℕ, suc, zero, _+_, _*_, _^_, _≤_, _<_}
 use mathlib.Core.Path.{_≡_, refl, sym, ap, _∙_}
 use mathlib.Core.Bool.{Bool, true, false, cond}
-use mathlib.Core.List.{List, [], _∷_, _++_, map, map-append}
+use mathlib.Core.List.{List, [], _∷_, _++_, map, map-append, map-map}
 use native.Mathlib.Omega.{arith}
 use borrow.Author.Tests.{ltb-false, lt-ltb}
 use lib.Dec.{ltb, leb}
@@ -14,33 +14,38 @@ use Rattle.layout.specs.declared.Header.{Header}
 use Rattle.layout.specs.declared.SignatureType.{SignatureType}
 use Rattle.layout.specs.declared.SignatureType.the-variants.{Frost, Schnorr, Taproot, TaprootRoot}
 use Rattle.layout.specs.Limits.{messageLimit, answerLength}
-use Rattle.layout.specs.Messages.{nonceRequest}
+use Rattle.layout.specs.Messages.{Arrival, nonceRequest}
 use Rattle.layout.specs.Types.{typeNumber, typeOf, rootLength}
 use Rattle.layout.specs.Encode.{headerOf, packet, header, parts, encode, encodeResponse, shareBytes, encodeJob, encodeNonceTimeout, encodeInsufficientSigners}
+use Rattle.layout.specs.Encode.{arrivalSigner, arrivalClock, encodeArrivals}
 use Rattle.layout.specs.LaidOut.{headerIn, partsFrom}
 use Rattle.layout.proofs.Headed.{typeNumber-typeOf}
 use Rattle.layout.proofs.Frame.{HeaderFits, headerIn-packet, partsFrom-packet}
 use Rattle.framing.specs.Writing.{Writing, written, refused, writing, writeMessage, answer, total}
 use Rattle.body.specs.Body.{rootOf, requestOf}
-use Rattle.pieces.specs.Places.{bytesAt, responseHolds, responseAt, placesOf, signerNumber, signersOf}
+use Rattle.pieces.specs.Places.{bytesAt, responseHolds, responseAt, placesOf, signerNumber, signersOf, arrivalOf, arrivalsOf}
 use Rattle.pieces.proofs.Given.{response-held, encode-at, places-hold}
 use Rattle.requests.specs.Requests.{shareRequestOf, writeShareRequest}
-use Rattle.writer.specs.Results.{writeNonceTimeout, writeInsufficientSigners}
+use Rattle.writer.specs.Results.{writeNonceTimeout, writeInsufficientSigners, writeArrivals}
 use Rattle.job.specs.declared.JobList.the-variants.{KeyIds, Nonces}
 use Rattle.job.specs.Job.{keyCounts, shareKeys, jobHolds, signersIn, sharesFrom, sharesAt, sharesOf, jobOf, writeJob, listBytes}
 use Rattle.job.proofs.Held.{job-held, counts-few, signers-hold}
 use Rattle.job.proofs.Lists.{shares-next, key-bytes, nonces-bytes}
 use Rattle.library_writers.specs.declared.given.RcHead.{RcHead}
 use Rattle.library_writers.specs.declared.given.RcSignerIds.{RcSignerIds}
+use Rattle.library_writers.specs.declared.given.RcArrival.{RcArrival}
+use Rattle.library_writers.specs.declared.given.RcArrivals.{RcArrivals}
 use Rattle.library_writers.specs.declared.given.RcResponse.{RcResponse}
 use Rattle.library_writers.specs.declared.given.RcResponses.{RcResponses}
 use Rattle.library_writers.specs.declared.given.RcJobPlace.{RcJobPlace}
 use Rattle.library_writers.specs.declared.given.RcJobPlaces.{RcJobPlaces}
 use Rattle.library_writers.specs.Given.{headOf, signerIdOf, signersGiven, placeOf, responseOf, responsesOf, jobPlaceOf, jobPlacesOf}
+use Rattle.library_writers.specs.Given.{arrivalGiven, arrivalsGiven}
 use Rattle.library_writers.specs.Written.{plain, typed}
 use Rattle.library_writers.specs.ReadBack.{headerGiven}
 use Rattle.library_writers.proofs.ReadBack.{type-given}
 use Rattle.library_writers.specs.Laid.{listGiven, rootGiven, laid, requestLaid, responseHeader, responseLists, responseLaid, shareRequestLaid, sharesLaid, allShares, jobLaid, nonceTimeoutLaid, insufficientSignersLaid}
+use Rattle.library_writers.specs.Laid.{arrivalsLaid}
 
 -- bytes that are written are those of a writer that was not refused
 abbrev bytesIn : Writing → List ℕ
@@ -229,3 +234,17 @@ module _ (s : List ℕ) (room : ℕ) (malicious : RcSignerIds) where
       writeInsufficientSigners room (signersGiven malicious) ≡ written s → s ≡ insufficientSignersLaid malicious
   unfolding writeInsufficientSigners encodeInsufficientSigners
   insufficient-signers-written e = fine s room _ _ e .1 ∙ rw (ids-laid malicious)
+
+-- kind 35
+module _ (given : RcArrivals) where
+  column-laid :
+      (f : Arrival → ℕ)
+      → map f (arrivalsOf (arrivalsGiven given))
+      ≡ map (λ (a : RcArrival). f (arrivalOf (arrivalGiven a))) (take (given .count) (given .arrivals))
+  unfolding arrivalsOf arrivalsGiven
+  column-laid f = rw (map-map arrivalOf arrivalGiven, take-map, map-map f)
+
+  pub arrivals-written :
+      (s : List ℕ) (room : ℕ) → writeArrivals room (arrivalsGiven given) ≡ written s → s ≡ arrivalsLaid given
+  unfolding writeArrivals encodeArrivals arrivalGiven
+  arrivals-written s room e = fine s room _ _ e .1 ∙ rw (column-laid arrivalSigner, column-laid arrivalClock)

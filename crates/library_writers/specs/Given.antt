@@ -8,12 +8,16 @@ use Rattle.pieces.specs.declared.places.Place.{Place}
 use Rattle.pieces.specs.declared.places.ResponsePlace.{ResponsePlace}
 use Rattle.pieces.specs.declared.places.ResponsePlaces.{ResponsePlaces}
 use Rattle.pieces.specs.declared.places.SignerIds.{SignerIds}
+use Rattle.pieces.specs.declared.places.Arrival.{Arrival}
+use Rattle.pieces.specs.declared.places.Arrivals.{Arrivals}
 use Rattle.job.specs.declared.JobPlace.{JobPlace}
 use Rattle.job.specs.declared.JobPlaces.{JobPlaces}
 use Rattle.responses.specs.declared.lists.ResponseHead.{ResponseHead}
 use Rattle.library_writers.specs.declared.given.RcHead.{RcHead}
 use Rattle.library_writers.specs.declared.given.RcResponseHead.{RcResponseHead}
 use Rattle.library_writers.specs.declared.given.RcSignerIds.{RcSignerIds}
+use Rattle.library_writers.specs.declared.given.RcArrival.{RcArrival}
+use Rattle.library_writers.specs.declared.given.RcArrivals.{RcArrivals}
 use Rattle.library_writers.specs.declared.given.RcPlace.{RcPlace}
 use Rattle.library_writers.specs.declared.given.RcResponse.{RcResponse}
 use Rattle.library_writers.specs.declared.given.RcResponses.{RcResponses}
@@ -40,6 +44,12 @@ responseHeadOf given =
 
 unfoldable pub signersGiven : RcSignerIds → SignerIds
 signersGiven s = record { ids = map signerIdOf (s .ids); count = s .count }
+
+unfoldable pub arrivalGiven : RcArrival → Arrival
+arrivalGiven a = record { «signer_id» = signerIdOf (a .«signer_id»); clock = a .clock }
+
+unfoldable pub arrivalsGiven : RcArrivals → Arrivals
+arrivalsGiven s = record { arrivals = map arrivalGiven (s .arrivals); count = s .count }
 
 unfoldable pub placeOf : RcPlace → Place
 placeOf p = record { at = p .at; count = p .count }

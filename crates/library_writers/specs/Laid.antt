@@ -5,9 +5,11 @@ use lib.ListN.{length, take, drop}
 use Rattle.wire.specs.Bytes.{joined}
 use Rattle.layout.specs.declared.Header.{Header}
 use Rattle.layout.specs.Types.{rootLength}
-use Rattle.layout.specs.Encode.{packet, idBytes, headerOf, noIds}
+use Rattle.layout.specs.Encode.{packet, idBytes, clockBytes, headerOf, noIds}
 use Rattle.library_writers.specs.declared.given.RcHead.{RcHead}
 use Rattle.library_writers.specs.declared.given.RcSignerIds.{RcSignerIds}
+use Rattle.library_writers.specs.declared.given.RcArrival.{RcArrival}
+use Rattle.library_writers.specs.declared.given.RcArrivals.{RcArrivals}
 use Rattle.library_writers.specs.declared.given.RcPlace.{RcPlace}
 use Rattle.library_writers.specs.declared.given.RcResponse.{RcResponse}
 use Rattle.library_writers.specs.declared.given.RcResponses.{RcResponses}
@@ -82,3 +84,11 @@ nonceTimeoutLaid waiters malicious = packet (headerOf 33 0 2 0 noIds) (idsLaid w
 
 abbrev pub insufficientSignersLaid : RcSignerIds → List ℕ
 insufficientSignersLaid malicious = packet (headerOf 34 0 1 0 noIds) (idsLaid malicious ∷ [])
+
+-- 35, "responder ids .., and their readings, eight bytes each" (02, e)
+abbrev pub arrivalsLaid : RcArrivals → List ℕ
+arrivalsLaid s =
+    let all = take (s .count) (s .arrivals) in
+    let signers = map (λ (a : RcArrival). a .«signer_id») all in
+    let clocks = map (λ (a : RcArrival). a .clock) all in
+    packet (headerOf 35 0 2 0 noIds) (idBytes signers ∷ (clockBytes clocks ∷ []))

@@ -2,6 +2,7 @@
 ghost use mathlib.Core.Path.{_≡_};
 ghost use mathlib.Core.List.{map};
 ghost use Rattle.library_writers.specs.Given.{headOf, responseHeadOf, signerIdOf, signersGiven, placeOf, responseOf, responsesOf, jobPlaceOf, jobPlacesOf};
+ghost use Rattle.library_writers.specs.Given.{arrivalGiven, arrivalsGiven};
 use body::RequestHead;
 use job::JobPlace;
 use job::JobPlaces;
@@ -10,6 +11,8 @@ use layout::LIST_LIMIT;
 use layout::ROOT_LENGTH;
 use layout::SIGNER_LIMIT;
 use layout::SignerId;
+use pieces::places::Arrival;
+use pieces::places::Arrivals;
 use pieces::places::Place;
 use pieces::places::ResponsePlace;
 use pieces::places::ResponsePlaces;
@@ -41,6 +44,21 @@ pub struct RcResponseHead {
 #[repr(C)]
 pub struct RcSignerIds {
     pub ids: [u32; SIGNER_LIMIT],
+    pub count: u64,
+}
+
+// A signer, and when it answered.
+#[repr(C)]
+pub struct RcArrival {
+    pub signer_id: u32,
+    pub reserved: u32,
+    pub clock: u64,
+}
+
+// The first `count` of the arrivals.
+#[repr(C)]
+pub struct RcArrivals {
+    pub arrivals: [RcArrival; SIGNER_LIMIT],
     pub count: u64,
 }
 
@@ -135,6 +153,37 @@ pub fn signers(given: RcSignerIds) -> SignerIds
     let ids = signer_ids(numbers);
     SignerIds {
         ids,
+        count: given.count as usize,
+    }
+}
+
+fn each_arrival(given: [RcArrival; SIGNER_LIMIT]) -> [Arrival; SIGNER_LIMIT]
+    ensures { λ r. ⌜ r ≡ map arrivalGiven given ⌝ }
+{
+    let none = Arrival {
+        signer_id: SignerId(0),
+        clock: 0,
+    };
+    let mut all = [none; SIGNER_LIMIT];
+    let mut i: usize = 0;
+    while i < SIGNER_LIMIT {
+        let a = given[i];
+        all[i] = Arrival {
+            signer_id: SignerId(a.signer_id),
+            clock: a.clock,
+        };
+        i += 1;
+    }
+    all
+}
+
+pub fn arrivals(given: RcArrivals) -> Arrivals
+    ensures { λ r. ⌜ r ≡ arrivalsGiven given ⌝ }
+{
+    let each = given.arrivals;
+    let all = each_arrival(each);
+    Arrivals {
+        arrivals: all,
         count: given.count as usize,
     }
 }

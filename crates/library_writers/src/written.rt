@@ -5,11 +5,12 @@ ghost use Rattle.layout.specs.Messages.{nonceRequest, dkgBegin, dkgSigner, dkgC
 ghost use Rattle.framing.specs.Writing.{writeMessage};
 ghost use Rattle.body.specs.Body.{requestOf};
 ghost use Rattle.requests.specs.Requests.{writeShareRequest};
-ghost use Rattle.writer.specs.Results.{writeNonceTimeout, writeInsufficientSigners};
+ghost use Rattle.writer.specs.Results.{writeNonceTimeout, writeInsufficientSigners, writeArrivals};
 ghost use Rattle.job.specs.Job.{writeJob};
-ghost use Rattle.library_writers.specs.Given.{headOf, signersGiven, responsesOf, jobPlacesOf};
+ghost use Rattle.library_writers.specs.Given.{headOf, signersGiven, arrivalsGiven, responsesOf, jobPlacesOf};
 ghost use Rattle.library_writers.specs.Written.{plain, typed, WrotePlain};
 use crate::given;
+use crate::given::RcArrivals;
 use crate::given::RcHead;
 use crate::given::RcJobPlaces;
 use crate::given::RcResponses;
@@ -144,5 +145,14 @@ pub fn write_insufficient_signers(out: &mut [u8], malicious: RcSignerIds) -> RcW
 {
     let ids = given::signers(malicious);
     let w = results::write_insufficient_signers(out, ids);
+    plain_of(w)
+}
+
+pub fn write_arrivals(out: &mut [u8], given: RcArrivals) -> RcWritten
+    ensures { λ r. ⌜ WrotePlain (writeArrivals (length (now (out .entry))) (arrivalsGiven given))
+        (now (out .entry)) r (now (out .exit)) ⌝ }
+{
+    let list = given::arrivals(given);
+    let w = results::write_arrivals(out, list);
     plain_of(w)
 }

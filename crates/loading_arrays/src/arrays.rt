@@ -32,17 +32,28 @@ use state_bytes::SLOT_BYTES;
 use state_bytes::SLOTS;
 use validity::keys::KeyIds;
 
-fn key_ids_at(s: &[u8], at: usize) -> [KeyId; LIST_LIMIT]
-    requires { ⌜ at ≤ 8192 ⌝ }
-    ensures { λ r. ⌜ r ≡ (each listLimit keyForm) .load (now (s .entry)) at ⌝ }
+// A key list's own bytes.
+fn key_ids_in(keys: &[u8]) -> [KeyId; LIST_LIMIT]
+    ensures { λ r. ⌜ r ≡ (each listLimit keyForm) .load (now (keys .entry)) 0 ⌝ }
 {
     let mut ids = [KeyId(0); LIST_LIMIT];
     let mut i: usize = 0;
     while i < LIST_LIMIT {
-        ids[i] = KeyId(wire::u32_at(s, at + KEY_BYTES * i));
+        ids[i] = KeyId(wire::u32_at(keys, KEY_BYTES * i));
         i += 1;
     }
     ids
+}
+
+// Where all of the list's bytes are there, the compiler knows how many, and asks no more.
+fn key_ids_at(s: &[u8], at: usize) -> [KeyId; LIST_LIMIT]
+    requires { ⌜ at ≤ 8192 ⌝ }
+    ensures { λ r. ⌜ r ≡ (each listLimit keyForm) .load (now (s .entry)) at ⌝ }
+{
+    if s.len() < at + KEY_BYTES * LIST_LIMIT {
+        return key_ids_in(wire::part(s, at, KEY_BYTES * LIST_LIMIT));
+    }
+    key_ids_in(&s[at..at + KEY_BYTES * LIST_LIMIT])
 }
 
 fn signer_at(s: &[u8], at: usize) -> SignerEntry

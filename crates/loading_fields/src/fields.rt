@@ -18,6 +18,8 @@ use state_bytes::SIGN_ID;
 use state_bytes::SIGN_ITER_ID;
 use state_bytes::SIGN_START;
 use state_bytes::SIGN_TIMEOUT;
+use state_bytes::SLOT_BYTES;
+use state_bytes::SLOT_CLOCK;
 use state_bytes::SLOT_IDS;
 use state_bytes::SLOT_KEY_IDS;
 use state_bytes::SLOT_NONCES;
@@ -69,17 +71,18 @@ pub fn ids_at(s: &[u8], at: usize) -> Ids
     }
 }
 
-pub fn slot_at(s: &[u8], at: usize) -> ResponseSlot
-    requires { ⌜ at ≤ 8000 ⌝ }
-    ensures { λ r. ⌜ r ≡ slotForm .load (now (s .entry)) at ⌝ }
+// A slot's own bytes.
+fn slot_in(slot: &[u8]) -> ResponseSlot
+    ensures { λ r. ⌜ r ≡ slotForm .load (now (slot .entry)) 0 ⌝ }
 {
-    let held = flag_at(s, at);
-    let waits = flag_at(s, at + WAITS);
-    let dkg_id = wire::u64_at(s, at + SLOT_IDS);
-    let sign_id = wire::u64_at(s, at + SLOT_IDS + SIGN_ID);
-    let sign_iter_id = wire::u64_at(s, at + SLOT_IDS + SIGN_ITER_ID);
-    let key_ids = wire::u64_at(s, at + SLOT_KEY_IDS) as usize;
-    let nonces = wire::u64_at(s, at + SLOT_NONCES) as usize;
+    let held = flag_at(slot, 0);
+    let waits = flag_at(slot, WAITS);
+    let dkg_id = wire::u64_at(slot, SLOT_IDS);
+    let sign_id = wire::u64_at(slot, SLOT_IDS + SIGN_ID);
+    let sign_iter_id = wire::u64_at(slot, SLOT_IDS + SIGN_ITER_ID);
+    let key_ids = wire::u64_at(slot, SLOT_KEY_IDS) as usize;
+    let nonces = wire::u64_at(slot, SLOT_NONCES) as usize;
+    let clock = wire::u64_at(slot, SLOT_CLOCK);
     ResponseSlot {
         held,
         waits,
@@ -90,7 +93,19 @@ pub fn slot_at(s: &[u8], at: usize) -> ResponseSlot
         },
         key_ids,
         nonces,
+        clock,
     }
+}
+
+// Where all of the slot's bytes are there, the compiler knows how many, and asks no more.
+pub fn slot_at(s: &[u8], at: usize) -> ResponseSlot
+    requires { ⌜ at ≤ 8000 ⌝ }
+    ensures { λ r. ⌜ r ≡ slotForm .load (now (s .entry)) at ⌝ }
+{
+    if s.len() < at + SLOT_BYTES {
+        return slot_in(wire::part(s, at, SLOT_BYTES));
+    }
+    slot_in(&s[at..at + SLOT_BYTES])
 }
 
 pub fn clocks_at(s: &[u8], at: usize) -> Clocks

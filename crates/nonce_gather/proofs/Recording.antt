@@ -42,14 +42,14 @@ use Rattle.nonce_gather.specs.NonceGather.{NoncesGathering, ResponseReco
 never : {A B : Type 0} {a : A} → some a ≡ none → B
 never e = let z : _≡_ {A = ℕ} 0 1 = cc in let f : ⊥ = omega arith in absurd f
 
-pub has-record : {A : Type 0} (q : NonceResponse) (rs : List C.SignRoundInfo) → C.recordOf (q .message) (C.addResponse q rs) ≡ none → A
+pub has-record : {A : Type 0} (clock : ℕ) (q : NonceResponse) (rs : List C.SignRoundInfo) → C.recordOf (q .message) (C.addResponse clock q rs) ≡ none → A
 unfolding find change
-has-record q [] e = never (rw (same-self (q .message)) at e)
-has-record {A} q (x ∷ xs) e = by (C.isFor (q .message) x) refl e (has-record q xs)
+has-record clock q [] e = never (rw (same-self (q .message)) at e)
+has-record {A} clock q (x ∷ xs) e = by (C.isFor (q .message) x) refl e (has-record clock q xs)
   where
     by : (b : Bool) → C.isFor (q .message) x ≡ b
-        → find (C.isFor (q .message)) (cond b (C.withResponse q x ∷ xs) (x ∷ C.addResponse q xs)) ≡ none
-        → (C.recordOf (q .message) (C.addResponse q xs) ≡ none → A) → A
+        → find (C.isFor (q .message)) (cond b (C.withResponse clock q x ∷ xs) (x ∷ C.addResponse clock q xs)) ≡ none
+        → (C.recordOf (q .message) (C.addResponse clock q xs) ≡ none → A) → A
     by true t e f = never (rw t at e)
     by false t e f = f (rw t at e)
 
@@ -57,7 +57,7 @@ has-record {A} q (x ∷ xs) e = by (C.isFor (q .message) x) refl e (has-record q
 abbrev Ten : SignRoundInfo → Type 0
 Ten row = length (row .slots) ≡ signerLimit
 
-module _ (s : Coordinator) (shaped : Shaped s) (r i : ℕ) (r<4 : r < recordLimit) (ids : Ids) (m keys nonces : List ℕ) where
+module _ (s : Coordinator) (shaped : Shaped s) (r i : ℕ) (r<4 : r < recordLimit) (clock : ℕ) (ids : Ids) (m keys nonces : List ℕ) where
   opened-shaped : (length (opened r (length m) (s .records) .rows) ≡ recordLimit) × All Ten (opened r (length m) (s .records) .rows)
   unfolding opened
   opened-shaped = by (ltb r (s .records .count))
@@ -71,12 +71,12 @@ module _ (s : Coordinator) (shaped : Shaped s) (r i : ℕ) (r<4 : r < recordLimi
         all-set Ten (s .records .rows) r (emptyRow (length m)) (length-replicate signerLimit noSlot) (shaped .slots),
       )
 
-  pub added-shaped : Shaped (setRecords (addedRecords r i ids m keys nonces (s .records)) s)
+  pub added-shaped : Shaped (setRecords (addedRecords clock r i ids m keys nonces (s .records)) s)
   unfolding addedRecords
   added-shaped =
       let o = opened r (length m) (s .records) in
       let row = getD (o .rows) r noRow in
-      let x = heldSlot ids keys nonces in
+      let x = heldSlot clock ids keys nonces in
       let l = opened-shaped .0 in
       let ten : Ten row = all-get Ten (o .rows) r noRow (omega arith) (opened-shaped .1) in
       record {
@@ -96,12 +96,12 @@ module _ {s : Coordinator} {store m keys nonces : List ℕ} {room : ℕ} (g : No
   ready = record { signers = config-few s (within s (g .within)); records = records-few s (within s (g .within)); keys-few = g .few-keys }
 
   -- the verdict is to record it
-  module _ (ids : Ids) (id r i : ℕ) (shaped : Shaped s) (v : verdictOf s ids id store m keys nonces ≡ Record r i) where
+  module _ (clock : ℕ) (ids : Ids) (id r i : ℕ) (shaped : Shaped s) (v : verdictOf s ids id store m keys nonces ≡ Record r i) where
     abbrev at : (r ≡ recordPlace m (s .records) store) × Recordable s store m id i
     at = recordable s ids id store m keys nonces r i v
 
     abbrev after : Coordinator
-    after = setRecords (addedRecords r i ids m keys nonces (s .records)) s
+    after = setRecords (addedRecords clock r i ids m keys nonces (s .records)) s
 
     abbrev store′ : List ℕ
     store′ = addedStore r i m keys nonces (s .records) store
@@ -126,10 +126,10 @@ module _ {s : Coordinator} {store m keys nonces : List ℕ} {room : ℕ} (g : No
         by false = length-put _ (noncesAt r i) nonces ∙ length-put _ (keysAt r i) keys ∙ length-put store (messageAt r) m
 
     pub after-is-within : isWithin after ≡ true
-    after-is-within = rw (at .0) (after-within s store shaped (g .within) (g .stored) ids id i m keys nonces sent (at .1))
+    after-is-within = rw (at .0) (after-within s store shaped (g .within) (g .stored) clock ids id i m keys nonces sent (at .1))
 
-    pub seen : coordinatorOf after store′ ≡ recording (responseFor ids id m keys nonces) (coordinatorOf s store)
-    seen = rw (at .0) (recorded-seen s store shaped (g .within) (g .stored) ids id i m keys nonces sent (at .1))
+    pub seen : coordinatorOf after store′ ≡ recording clock (responseFor ids id m keys nonces) (coordinatorOf s store)
+    seen = rw (at .0) (recorded-seen s store shaped (g .within) (g .stored) clock ids id i m keys nonces sent (at .1))
 
     -- its message has a record then
     is-known : recordPlace m (after .records) store′ < after .records .count
@@ -140,8 +140,8 @@ module _ {s : Coordinator} {store m keys nonces : List ℕ} {room : ℕ} (g : No
         by true e = ltb-true _ _ e
         by false e =
             let gone : C.recordOf m (coordinatorOf after store′ .round .message-nonces) ≡ none =
-            no-record after store′ (added-shaped s shaped r i row-low ids m keys nonces) after-is-within m (ltb-false _ _ e) in
-            has-record (responseFor ids id m keys nonces) (coordinatorOf s store .round .message-nonces) (rw seen at gone)
+            no-record after store′ (added-shaped s shaped r i row-low clock ids m keys nonces) after-is-within m (ltb-false _ _ e) in
+            has-record clock (responseFor ids id m keys nonces) (coordinatorOf s store .round .message-nonces) (rw seen at gone)
 
     pub recorded : ResponseRecorded after store′ m room
     recorded =

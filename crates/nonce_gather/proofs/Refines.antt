@@ -125,13 +125,13 @@ module _ (clock : ℕ) (t : SignatureType) (ids : Ids) (id : ℕ) (m keys nonces
   by-verdict Full e = record { answer = refl; events = refl; after = view-held s store b (g .within) }
   by-verdict Nothing e = record { answer = refl; events = refl; after = view-held s store b (g .within) }
   by-verdict (Record r i) e =
-      let after = setRecords (addedRecords r i ids m keys nonces (s .records)) s in
+      let after = setRecords (addedRecords clock r i ids m keys nonces (s .records)) s in
       let store′ = addedStore r i m keys nonces (s .records) store in
       subst
       (λ (c : Defined). Refines (recordedTurn clock t r i ids id m keys nonces s store) (onRecord clock t (c .position .root) q c (recordVerdict q c)))
-      (seen g ids id r i shaped e)
-      (record-refines clock t q after store′ (added-shaped s shaped r i (placed g ids id r i shaped e .row) ids m keys nonces) long b typed
-      (recorded g ids id r i shaped e))
+      (seen g clock ids id r i shaped e)
+      (record-refines clock t q after store′ (added-shaped s shaped r i (placed g clock ids id r i shaped e .row) clock ids m keys nonces) long b typed
+      (recorded g clock ids id r i shaped e))
 
   pub gather-refines :
       Refines (gatherTurn clock t ids id m keys nonces s store) (gatherNonces clock t (coordinatorOf s store .position .root) q (coordinatorOf s store))

@@ -62,7 +62,7 @@ recordTurn clock t id m s store =
 -- the response on record r, in slot i; then the same
 unfoldable pub recordedTurn : ℕ → SignatureType → ℕ → ℕ → Ids → ℕ → List ℕ → List ℕ → List ℕ → Coordinator → List ℕ → Turn
 recordedTurn clock t r i ids id m keys nonces s store =
-    recordTurn clock t id m (setRecords (addedRecords r i ids m keys nonces (s .records)) s)
+    recordTurn clock t id m (setRecords (addedRecords clock r i ids m keys nonces (s .records)) s)
     (addedStore r i m keys nonces (s .records) store)
 
 unfoldable pub verdictTurn : ℕ → SignatureType → Ids → ℕ → List ℕ → List ℕ → List ℕ → Coordinator → List ℕ → Verdict → Turn

@@ -79,7 +79,7 @@ fn put_on_record(
         (now (nonces .entry)) s (now (store .entry))) (now (out .entry)) d (now (store .exit)) (now (out .exit)) ⌝ }
 {
     let held = s.records;
-    let added = rows::add(held, store, r, i, ids, message, key_ids, nonces);
+    let added = rows::add(held, store, clock, r, i, ids, message, key_ids, nonces);
     let mut t = s;
     t.records = added;
     on_record(t, store, out, clock, signature_type, id, message)

@@ -23,8 +23,10 @@ use Rattle.pieces.specs.declared.places.Place.{Place}
 use Rattle.pieces.specs.declared.places.ResponsePlace.{ResponsePlace}
 use Rattle.pieces.specs.declared.places.ResponsePlaces.{ResponsePlaces}
 use Rattle.pieces.specs.declared.places.SignerIds.{SignerIds}
+use Rattle.pieces.specs.declared.places.Arrivals.{Arrivals}
 use Rattle.pieces.proofs.places.ResponsePlaces as Places
 use Rattle.pieces.proofs.places.SignerIds as Signers
+use Rattle.pieces.proofs.places.Arrivals as Arriving
 use Rattle.framing.specs.Writing.{total}
 use Rattle.pieces.specs.Places.{bytesAt, holds, responseHolds, responseAt, responseLength, placesOf, responsesHold}
 use Rattle.framing.proofs.Laws.{length-parts}
@@ -35,6 +37,9 @@ places-10 ps vs g = rw length-map at (g .1 .1 .0 .1 .0 .1)
 
 pub signers-10 : (s : SignerIds) (vs : List Val) → Is Signers.the-row s vs → length (s .ids) ≡ 10
 signers-10 s vs g = rw length-map at (g .1 .1 .0 .1 .0 .1)
+
+pub arrivals-10 : (s : Arrivals) (vs : List Val) → Is Arriving.the-row s vs → length (s .arrivals) ≡ 10
+arrivals-10 s vs g = rw length-map at (g .1 .1 .0 .1 .0 .1)
 
 -- the live entries of an array, from i on
 pub drop-live :

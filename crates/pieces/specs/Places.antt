@@ -7,12 +7,15 @@ use lib.ListN.{take, drop}
 use Rattle.wire.specs.Bytes.{every}
 use Rattle.layout.specs.declared.SignerId.{SignerId}
 use Rattle.layout.specs.Messages.{NonceResponse}
+use Rattle.layout.specs.Messages as Said
 use Rattle.layout.specs.Decode.{idsIn, noncesIn}
 use Rattle.layout.specs.Limits.{messageLimit, listLimit, signerLimit}
 use Rattle.pieces.specs.declared.places.Place.{Place}
 use Rattle.pieces.specs.declared.places.ResponsePlace.{ResponsePlace}
 use Rattle.pieces.specs.declared.places.ResponsePlaces.{ResponsePlaces}
 use Rattle.pieces.specs.declared.places.SignerIds.{SignerIds}
+use Rattle.pieces.specs.declared.places.Arrival.{Arrival}
+use Rattle.pieces.specs.declared.places.Arrivals.{Arrivals}
 
 -- the bytes of a list of entries of w bytes at its place
 unfoldable pub bytesAt : ℕ → Place → List ℕ → List ℕ
@@ -53,3 +56,10 @@ signerNumber s = s .0
 
 unfoldable pub signersOf : SignerIds → List ℕ
 signersOf s = take (s .count) (map signerNumber (s .ids))
+
+-- a list of arrivals
+abbrev pub arrivalOf : Arrival → Said.Arrival
+arrivalOf a = record { signer-id = a .«signer_id» .0; clock = a .clock }
+
+unfoldable pub arrivalsOf : Arrivals → List Said.Arrival
+arrivalsOf s = take (s .count) (map arrivalOf (s .arrivals))

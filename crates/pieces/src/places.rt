@@ -28,6 +28,17 @@ pub struct SignerIds {
     pub count: usize,
 }
 
+// A recorded nonce response's signer and the clock reading of its call (02, e).
+pub struct Arrival {
+    pub signer_id: SignerId,
+    pub clock: u64,
+}
+
+pub struct Arrivals {
+    pub arrivals: [Arrival; layout::SIGNER_LIMIT],
+    pub count: usize,
+}
+
 // Whether a list of at most `limit` entries of w bytes lies in a source of `size` bytes. No product is formed that could overflow.
 pub fn is_held(size: usize, w: usize, limit: usize, p: Place) -> bool
     ensures { λ r. ⌜ r ≡ holds size w limit p ⌝ }

@@ -16,6 +16,7 @@ use Rattle.wire.proofs.Lists.{all-imp}
 use Rattle.layout.specs.Limits.{messageLimit, listLimit, signerLimit, recordLimit, storeLength}
 use Rattle.layout.specs.declared.Ids.{Ids}
 use Rattle.layout.specs.Messages.{NonceResponse}
+use Rattle.layout.specs.Encode.{arrivalSigner}
 use Rattle.pieces.specs.Places.{bytesAt, responseAt}
 use Rattle.step_definition.specs.Lists.{insertBy}
 use Rattle.step_definition.specs.Ids.{insert}
@@ -25,7 +26,8 @@ use Rattle.state.specs.declared.fields.SignRoundInfo.{SignRoundInfo}
 use Rattle.state.specs.declared.fields.SignerSlot.{SignerSlot}
 use Rattle.state.specs.Slots.{Rising, signerSlot, collect}
 use Rattle.state.specs.Setters.{setSlot}
-use Rattle.state.specs.View.{keyBytes, nonceBytes, responseBytes, recordBytes, messageAt, keysAt, noncesAt, noSlot, placeOf, heldIn, waitsIn, rowOf, rowsFrom}
+use Rattle.state.specs.View.{keyBytes, nonceBytes, responseBytes, recordBytes, messageAt, keysAt, noncesAt, noSlot, placeOf, heldIn}
+use Rattle.state.specs.View.{arrivalIn, waitsIn, rowOf, rowsFrom}
 use Rattle.state.proofs.Arrays.{all-both-imp}
 use Rattle.state.proofs.SignerSlots.{In}
 use Rattle.state.proofs.Collect.{when-same, when-some, collect-same, collect-insert}
@@ -113,10 +115,10 @@ beside store keys nonces r i j few-keys few-nonces ne = by (ltb j i) refl
 
 module _ (es : List SignerSlot) (n : ℕ) (n≤10 : n ≤ signerLimit) (low : All (λ (e : SignerSlot). e .slot < n) es) (rising : Rising es)
     (id i : ℕ) (among : In (signerSlot id i) es) (one : All (λ (e : SignerSlot). e .slot ≡ i → e .id ≡ id) es)
-    (ids : Ids) (m keys nonces : List ℕ) (sent : Sent m keys nonces) (i<n : i < n)
+    (clock : ℕ) (ids : Ids) (m keys nonces : List ℕ) (sent : Sent m keys nonces) (i<n : i < n)
     (r : ℕ) (r<4 : r < recordLimit) where
   abbrev pub slot : ResponseSlot
-  slot = heldSlot ids keys nonces
+  slot = heldSlot clock ids keys nonces
 
   abbrev pub q : NonceResponse
   q = responseFor ids id m keys nonces
@@ -165,10 +167,14 @@ module _ (es : List SignerSlot) (n : ℕ) (n≤10 : n ≤ signerLimit) (low : Al
       (slots : List ResponseSlot) (e : SignerSlot) → (e .slot ≡ i → e .id ≡ id) → (e .id ≡ id → ⊥) → waitsIn (set slots i slot) e ≡ waitsIn slots e
   other-waiter slots e same ne = rw (getD-set-other slots i (e .slot) slot noSlot (λ p. ne (same p)))
 
+  other-arrival :
+      (slots : List ResponseSlot) (e : SignerSlot) → (e .slot ≡ i → e .id ≡ id) → (e .id ≡ id → ⊥) → arrivalIn (set slots i slot) e ≡ arrivalIn slots e
+  other-arrival slots e same ne = rw (getD-set-other slots i (e .slot) slot noSlot (λ p. ne (same p)))
+
   -- the record of the message, with the response on it
   pub row-added :
       (store : List ℕ) (row : SignRoundInfo) → storeLength ≤ length store → Good n row → rowMessage r row store ≡ m → getD (row .slots) i noSlot .held ≡ false
-      → rowOf es (written store) r (setSlot i slot row) ≡ C.withResponse q (rowOf es store r row)
+      → rowOf es (written store) r (setSlot i slot row) ≡ C.withResponse clock q (rowOf es store r row)
   unfolding rowOf rowMessage bytesAt
   row-added store row big g msg free =
       let s = sent in
@@ -181,8 +187,12 @@ module _ (es : List SignerSlot) (n : ℕ) (n≤10 : n ≤ signerLimit) (low : Al
       collect-insert C.responderId (heldIn r (row .message) store (row .slots)) (held-id r store (row .message) (row .slots)) q
       (heldIn r (row .message) (written store) (set (row .slots) i slot)) (signerSlot id i) es refl (rw free) (new-response store (row .message) (row .slots) big ten msg short) rising among
       (all-both-imp es (λ (e : SignerSlot) (l : e .slot < n) (o : e .slot ≡ i → e .id ≡ id). other-response store row e g l o) low one) in
+      let t : collect (arrivalIn (set (row .slots) i slot)) es ≡ insertBy arrivalSigner (C.arriving clock q) (collect (arrivalIn (row .slots)) es) =
+      collect-insert arrivalSigner (arrivalIn (row .slots)) (λ e y h. sym (ap arrivalSigner (when-some (getD (row .slots) (e .slot) noSlot .held) _ y h))) (C.arriving clock q)
+      (arrivalIn (set (row .slots) i slot)) (signerSlot id i) es refl (rw free) (rw at) rising among
+      (all-imp es (λ (e : SignerSlot) (o : e .slot ≡ i → e .id ≡ id). other-arrival (row .slots) e o) one) in
       let d : collect (waitsIn (set (row .slots) i slot)) es ≡ insert id (collect (waitsIn (row .slots)) es) =
       collect-insert (λ (x : ℕ). x) (waitsIn (row .slots)) (λ e y h. sym (when-some (getD (row .slots) (e .slot) noSlot .held && getD (row .slots) (e .slot) noSlot .waits) (e .id) y h)) id
       (waitsIn (set (row .slots) i slot)) (signerSlot id i) es refl (rw free) (rw at) rising among
       (all-imp es (λ (e : SignerSlot) (o : e .slot ≡ i → e .id ≡ id). other-waiter (row .slots) e o) one) in
-      rw (a, b, d)
+      rw (a, b, t, d)

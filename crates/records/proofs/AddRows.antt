@@ -96,22 +96,22 @@ module _ (m store : List ℕ) (i : ℕ) (x : ResponseSlot) where
 
 -- the records from k on, at any store after that differs in the record r alone
 module _ (es : List SignerSlot) (n : ℕ) (n≤10 : n ≤ signerLimit) (low : All (λ (e : SignerSlot). e .slot < n) es)
-    (m keys nonces store store′ : List ℕ) (ids : Ids) (id i r : ℕ) (x : ResponseSlot)
+    (m keys nonces store store′ : List ℕ) (clock : ℕ) (ids : Ids) (id i r : ℕ) (x : ResponseSlot)
     (rest : (j : ℕ) → (j ≡ r → ⊥) → j < recordLimit → Same (messageAt j) recordBytes store store′) where
   abbrev q : NonceResponse
   q = responseFor ids id m keys nonces
 
   abbrev Known : SignRoundInfo → Type 0
-  Known row = rowOf es store′ r (setSlot i x row) ≡ C.withResponse q (rowOf es store r row)
+  Known row = rowOf es store′ r (setSlot i x row) ≡ C.withResponse clock q (rowOf es store r row)
 
   abbrev New : Type 0
-  New = rowOf es store′ r (setSlot i x (emptyRow (length m))) ≡ C.opened q
+  New = rowOf es store′ r (setSlot i x (emptyRow (length m))) ≡ C.opened clock q
 
   pub rows-added :
       (k : ℕ) (rows : List SignRoundInfo) → r ≡ k + index m store k rows → k + length rows ≤ recordLimit → All (Good n) rows
       → (index m store k rows < length rows → rowMessage r (getD rows (index m store k rows) noRow) store ≡ m → Known (getD rows (index m store k rows) noRow))
       → (index m store k rows ≡ length rows → New)
-      → rowsFrom es store′ k (addedRows m store i x k rows) ≡ C.addResponse q (rowsFrom es store k rows)
+      → rowsFrom es store′ k (addedRows m store i x k rows) ≡ C.addResponse clock q (rowsFrom es store k rows)
   unfolding index addedRows rowsFrom change rowOf rowMessage
   rows-added k [] e l g old new = rw (e, add-zero k) at (ap (λ (y : C.SignRoundInfo). y ∷ []) (new refl))
   rows-added k (row ∷ rows) e l g old new =
@@ -125,11 +125,11 @@ module _ (es : List SignerSlot) (n : ℕ) (n≤10 : n ≤ signerLimit) (low : Al
           → (r ≡ k + 1 + index m store (k + 1) rows
           → (index m store (k + 1) rows < length rows → rowMessage r (getD rows (index m store (k + 1) rows) noRow) store ≡ m → Known (getD rows (index m store (k + 1) rows) noRow))
           → (index m store (k + 1) rows ≡ length rows → New)
-          → rowsFrom es store′ (k + 1) (addedRows m store i x (k + 1) rows) ≡ C.addResponse q (rowsFrom es store (k + 1) rows))
+          → rowsFrom es store′ (k + 1) (addedRows m store i x (k + 1) rows) ≡ C.addResponse clock q (rowsFrom es store (k + 1) rows))
           → rowsFrom es store′ k (cond b (setSlot i x row ∷ rows) (row ∷ addedRows m store i x (k + 1) rows))
           ≡ cond b
-          (C.withResponse q (rowOf es store k row) ∷ rowsFrom es store (k + 1) rows)
-          (rowOf es store k row ∷ C.addResponse q (rowsFrom es store (k + 1) rows))
+          (C.withResponse clock q (rowOf es store k row) ∷ rowsFrom es store (k + 1) rows)
+          (rowOf es store k row ∷ C.addResponse clock q (rowsFrom es store (k + 1) rows))
       by true same e old new rec =
           let er : r ≡ k = omega arith in
           let msg : rowMessage r row store ≡ m = rw er (sym (same-is m (rowMessage k row store) same)) in

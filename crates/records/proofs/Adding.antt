@@ -16,12 +16,12 @@ use Rattle.state.specs.View.{keysAt, noncesAt, noRow}
 use Rattle.records.specs.Records.{rowMessage, recordFrom, heldSlot, opened, openedStore, addedRecords, addedStore}
 
 pub add-done :
-    {after : Records} {s₁ s₂ s₃ : List ℕ} {at₁ at₂ : ℕ} (rs : Records) (m keys nonces store : List ℕ) (r i : ℕ) (ids : Ids)
+    {after : Records} {s₁ s₂ s₃ : List ℕ} {at₁ at₂ : ℕ} (rs : Records) (m keys nonces store : List ℕ) (clock r i : ℕ) (ids : Ids)
     → after ≡ opened r (length m) rs → s₁ ≡ openedStore r m rs store → s₂ ≡ put s₁ at₁ keys → s₃ ≡ put s₂ at₂ nonces
     → at₁ ≡ keysAt r i → at₂ ≡ noncesAt r i
-    → (setRow r (setSlot i (heldSlot ids keys nonces) (getD (after .rows) r noRow)) after ≡ addedRecords r i ids m keys nonces rs) × (s₃ ≡ addedStore r i m keys nonces rs store)
+    → (setRow r (setSlot i (heldSlot clock ids keys nonces) (getD (after .rows) r noRow)) after ≡ addedRecords clock r i ids m keys nonces rs) × (s₃ ≡ addedStore r i m keys nonces rs store)
 unfolding addedRecords addedStore
-add-done rs m keys nonces store r i ids o e₁ e₂ e₃ p q = rw (o, e₃, e₂, e₁, p, q) (refl, refl)
+add-done rs m keys nonces store clock r i ids o e₁ e₂ e₃ p q = rw (o, e₃, e₂, e₁, p, q) (refl, refl)
 
 -- the search, one record on
 module _ (m store : List ℕ) (rows : List SignRoundInfo) (n r : ℕ) where

@@ -46,18 +46,18 @@ row-within n i x row p w =
     and-both short (every slotWithin (take n (set (row .slots) i x))) (and-left short few w) (every-set slotWithin n (row .slots) i x p (and-right short few w))
 
 module _ (s : Coordinator) (store : List ℕ) (shaped : Shaped s) (w : isWithin s ≡ true) (big : storeLength ≤ length store)
-    (ids : Ids) (id i : ℕ) (m keys nonces : List ℕ) (sent : Sent m keys nonces) (ok : Recordable s store m id i) where
+    (clock : ℕ) (ids : Ids) (id i : ℕ) (m keys nonces : List ℕ) (sent : Sent m keys nonces) (ok : Recordable s store m id i) where
   abbrev r : ℕ
   r = recordPlace m (s .records) store
 
   abbrev x : ResponseSlot
-  x = heldSlot ids keys nonces
+  x = heldSlot clock ids keys nonces
 
   abbrev store′ : List ℕ
   store′ = addedStore r i m keys nonces (s .records) store
 
   abbrev after : Coordinator
-  after = setRecords (addedRecords r i ids m keys nonces (s .records)) s
+  after = setRecords (addedRecords clock r i ids m keys nonces (s .records)) s
 
   abbrev n : ℕ
   n = s .config .count
@@ -93,7 +93,7 @@ module _ (s : Coordinator) (store : List ℕ) (shaped : Shaped s) (w : isWithin 
   unfolding slotWithin
   slot-within = let t = sent in and-both (leb (length keys / 4) listLimit) (leb (length nonces / 66) listLimit) (le-leb (length keys / 4) listLimit (omega arith)) (le-leb (length nonces / 66) listLimit (omega arith))
 
-  records-within : recordsWithin n (addedRecords r i ids m keys nonces (s .records)) ≡ true
+  records-within : recordsWithin n (addedRecords clock r i ids m keys nonces (s .records)) ≡ true
   unfolding recordsWithin addedRecords opened
   records-within = by (ltb r (s .records .count)) refl
     where
@@ -121,15 +121,15 @@ module _ (s : Coordinator) (store : List ℕ) (shaped : Shaped s) (w : isWithin 
   pub after-within : isWithin after ≡ true
   after-within = let t = within s w in is-within after (record { config = t .config; message = t .message; records = records-within; shares = t .shares })
 
-  pub recorded-seen : coordinatorOf after store′ ≡ recording (responseFor ids id m keys nonces) (coordinatorOf s store)
+  pub recorded-seen : coordinatorOf after store′ ≡ recording clock (responseFor ids id m keys nonces) (coordinatorOf s store)
   unfolding coordinatorOf roundOf standingOf
   recorded-seen =
       let es = slotsOf (s .config) in
       let a = records-added es n n≤10 low (slots-rise 0 (idsOf (s .config))) id i (slot-in id 0 (idsOf (s .config)) i (ok .found)) (slots-one id (idsOf (s .config)) i (ok .found))
-      ids m keys nonces sent i<n (s .records) store (records-few s (within s w)) (shaped .rows) good room big (ok .free) in
+      clock ids m keys nonces sent i<n (s .records) store (records-few s (within s w)) (shaped .rows) good room big (ok .free) in
       let c : collect (sharesIn store (s .shares .slots)) es ≡ collect (sharesIn store′ (s .shares .slots)) es =
       shares-kept es n store store′ (s .shares .slots) n≤10 (shaped .shares) low (within s w .shares) shares-beside in
       rw (a, ← c)
 
-  pub recorded : s .commissioned ≡ true → view after store′ ≡ commissioned (recording (responseFor ids id m keys nonces) (coordinatorOf s store))
+  pub recorded : s .commissioned ≡ true → view after store′ ≡ commissioned (recording clock (responseFor ids id m keys nonces) (coordinatorOf s store))
   recorded b = view-held after store′ b after-within ∙ rw recorded-seen

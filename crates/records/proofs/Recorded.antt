@@ -27,7 +27,8 @@ use Rattle.state.specs.declared.fields.SignerSlot.{SignerSlot}
 use Rattle.state.specs.Slots.{Rising, signerSlot, collect}
 use Rattle.state.specs.Setters.{setSlot, setRow}
 use Rattle.state.specs.Counts.{slotWithin, rowWithin}
-use Rattle.state.specs.View.{recordBytes, messageAt, keysAt, noncesAt, noSlot, noRow, heldIn, waitsIn, rowOf, rowsFrom, recordsOf}
+use Rattle.state.specs.View.{recordBytes, messageAt, keysAt, noncesAt, noSlot, noRow, heldIn, arrivalIn, waitsIn, rowOf, rowsFrom}
+use Rattle.state.specs.View.{recordsOf}
 use Rattle.state.proofs.Arrays.{getD-same, every-same}
 use Rattle.state.proofs.SignerSlots.{In}
 use Rattle.state.proofs.Collect.{collect-none}
@@ -52,7 +53,7 @@ elsewhere store bs r j at from to ne = by (ltb j r) refl
 
 module _ (es : List SignerSlot) (n : ℕ) (n≤10 : n ≤ signerLimit) (low : All (λ (e : SignerSlot). e .slot < n) es) (rising : Rising es)
     (id i : ℕ) (among : In (signerSlot id i) es) (one : All (λ (e : SignerSlot). e .slot ≡ i → e .id ≡ id) es)
-    (ids : Ids) (m keys nonces : List ℕ) (sent : Sent m keys nonces) (i<n : i < n)
+    (clock : ℕ) (ids : Ids) (m keys nonces : List ℕ) (sent : Sent m keys nonces) (i<n : i < n)
     (rs : Records) (store : List ℕ) (few : rs .count ≤ recordLimit) (four : length (rs .rows) ≡ recordLimit) (good : All (Good n) (take (rs .count) (rs .rows)))
     (room : recordPlace m rs store < recordLimit) (big : storeLength ≤ length store)
     (free : recordPlace m rs store < rs .count → getD (getD (rs .rows) (recordPlace m rs store) noRow .slots) i noSlot .held ≡ false) where
@@ -60,7 +61,7 @@ module _ (es : List SignerSlot) (n : ℕ) (n≤10 : n ≤ signerLimit) (low : Al
   r = recordPlace m rs store
 
   abbrev x : ResponseSlot
-  x = heldSlot ids keys nonces
+  x = heldSlot clock ids keys nonces
 
   abbrev q : NonceResponse
   q = responseFor ids id m keys nonces
@@ -89,7 +90,7 @@ module _ (es : List SignerSlot) (n : ℕ) (n≤10 : n ≤ signerLimit) (low : Al
   -- the record is known
   known : r < rs .count
       → rowsFrom es (put (put store (keysAt r i) keys) (noncesAt r i) nonces) 0 (take (rs .count) (set (rs .rows) r (setSlot i x (getD (rs .rows) r noRow))))
-      ≡ C.addResponse q (rowsFrom es store 0 live)
+      ≡ C.addResponse clock q (rowsFrom es store 0 live)
   known h =
       let s = sent in
       let i10 = slot-10 in
@@ -98,12 +99,12 @@ module _ (es : List SignerSlot) (n : ℕ) (n≤10 : n ≤ signerLimit) (low : Al
       let after : take (rs .count) (set (rs .rows) r (setSlot i x (getD (rs .rows) r noRow))) ≡ addedRows m store i x 0 live =
       rw e (set-known m store i x 0 (rs .rows) (rs .count) (omega arith) (omega arith)) in
       rw after
-      (rows-added es n n≤10 low m keys nonces store (put (put store (keysAt r i) keys) (noncesAt r i) nonces) ids id i r x
+      (rows-added es n n≤10 low m keys nonces store (put (put store (keysAt r i) keys) (noncesAt r i) nonces) clock ids id i r x
       (λ j ne l. same-then (elsewhere store keys r j (keysAt r i) (omega arith) (omega arith) ne) (elsewhere (put store (keysAt r i) keys) nonces r j (noncesAt r i) (omega arith) (omega arith) ne))
       0 live (e ∙ sym (zero-add _)) (omega arith) good
       (λ l msg. let g : Good n (getD live (index m store 0 live) noRow) = good-at live (index m store 0 live) l good in
       let f : getD (getD live (index m store 0 live) noRow .slots) i noSlot .held ≡ false = rw (← e, live-at r h) (free h) in
-      row-added es n n≤10 low rising id i among one ids m keys nonces sent i<n r room store (getD live (index m store 0 live) noRow) big g msg f)
+      row-added es n n≤10 low rising id i among one clock ids m keys nonces sent i<n r room store (getD live (index m store 0 live) noRow) big g msg f)
       (λ z. let y : ⊥ = omega arith in absurd y))
 
   -- the record that is opened has the message and no response
@@ -117,14 +118,17 @@ module _ (es : List SignerSlot) (n : ℕ) (n≤10 : n ≤ signerLimit) (low : Al
   nobody-waits : collect (waitsIn (replicate signerLimit noSlot)) es ≡ []
   nobody-waits = collect-none (waitsIn (replicate signerLimit noSlot)) es (λ e. rw (getD-same signerLimit (e .slot) noSlot))
 
-  first : (store : List ℕ) (k : ℕ) → rowMessage r (emptyRow k) store ≡ m → C.withResponse q (rowOf es store r (emptyRow k)) ≡ C.opened q
+  nobody-came : collect (arrivalIn (replicate signerLimit noSlot)) es ≡ []
+  nobody-came = collect-none (arrivalIn (replicate signerLimit noSlot)) es (λ e. rw (getD-same signerLimit (e .slot) noSlot))
+
+  first : (store : List ℕ) (k : ℕ) → rowMessage r (emptyRow k) store ≡ m → C.withResponse clock q (rowOf es store r (emptyRow k)) ≡ C.opened clock q
   unfolding rowOf insertBy rowMessage
-  first store k e = rw (e, nobody store k, nobody-waits)
+  first store k e = rw (e, nobody store k, nobody-came, nobody-waits)
 
   -- it is opened
   new : rs .count ≤ r
       → rowsFrom es (put (put (put store (messageAt r) m) (keysAt r i) keys) (noncesAt r i) nonces) 0 (take (rs .count + 1) (set (rs .rows) r (setSlot i x (emptyRow (length m)))))
-      ≡ C.addResponse q (rowsFrom es store 0 live)
+      ≡ C.addResponse clock q (rowsFrom es store 0 live)
   new h =
       let s = sent in
       let i10 = slot-10 in
@@ -137,21 +141,21 @@ module _ (es : List SignerSlot) (n : ℕ) (n≤10 : n ≤ signerLimit) (low : Al
       let after : take (rs .count + 1) (set (rs .rows) r (setSlot i x (emptyRow (length m)))) ≡ addedRows m store i x 0 live =
       rw (add-one (rs .count), last) (set-new m store i x 0 (rs .rows) (rs .count) (omega arith) (omega arith)) in
       rw after
-      (rows-added es n n≤10 low m keys nonces store (put store₂ (noncesAt r i) nonces) ids id i r x
+      (rows-added es n n≤10 low m keys nonces store (put store₂ (noncesAt r i) nonces) clock ids id i r x
       (λ j ne l. same-then (same-then (elsewhere store m r j (messageAt r) (omega arith) (omega arith) ne) (elsewhere store₁ keys r j (keysAt r i) (omega arith) (omega arith) ne)) (elsewhere store₂ nonces r j (noncesAt r i) (omega arith) (omega arith) ne))
       0 live (e ∙ sym (zero-add _)) (omega arith) good
       (λ l msg. let y : ⊥ = omega arith in absurd y)
-      (λ z. let added = row-added es n n≤10 low rising id i among one ids m keys nonces sent i<n r room store₁ (emptyRow (length m)) (omega (arith, length-put store (messageAt r) m)) (empty-good n (length m) (s .short)) opens (ap (λ (t : ResponseSlot). t .held) (getD-same signerLimit i noSlot)) in
+      (λ z. let added = row-added es n n≤10 low rising id i among one clock ids m keys nonces sent i<n r room store₁ (emptyRow (length m)) (omega (arith, length-put store (messageAt r) m)) (empty-good n (length m) (s .short)) opens (ap (λ (t : ResponseSlot). t .held) (getD-same signerLimit i noSlot)) in
       added ∙ first store₁ (length m) opens))
 
-  pub records-added : recordsOf es (addedStore r i m keys nonces rs store) (addedRecords r i ids m keys nonces rs) ≡ C.addResponse q (recordsOf es store rs)
+  pub records-added : recordsOf es (addedStore r i m keys nonces rs store) (addedRecords clock r i ids m keys nonces rs) ≡ C.addResponse clock q (recordsOf es store rs)
   unfolding addedStore addedRecords opened openedStore
   records-added = by (ltb r (rs .count)) refl
     where
       by : (b : Bool) → ltb r (rs .count) ≡ b
           → recordsOf es (put (put (cond b store (put store (messageAt r) m)) (keysAt r i) keys) (noncesAt r i) nonces)
           (setRow r (setSlot i x (getD (cond b rs (record { rows = set (rs .rows) r (emptyRow (length m)); count = rs .count + 1 }) .rows) r noRow)) (cond b rs (record { rows = set (rs .rows) r (emptyRow (length m)); count = rs .count + 1 })))
-          ≡ C.addResponse q (recordsOf es store rs)
+          ≡ C.addResponse clock q (recordsOf es store rs)
       by true l = known (ltb-true r (rs .count) l)
       by false l =
           rw (getD-set-same (rs .rows) r (emptyRow (length m)) noRow (omega arith), set-set (rs .rows) r (emptyRow (length m)) (setSlot i x (emptyRow (length m)))) (new (ltb-false r (rs .count) l))

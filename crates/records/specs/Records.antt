@@ -43,13 +43,14 @@ opened r n rs = cond (ltb r (rs .count)) rs (record { rows = set (rs .rows) r (e
 unfoldable pub openedStore : ℕ → List ℕ → Records → List ℕ → List ℕ
 openedStore r m rs store = cond (ltb r (rs .count)) store (put store (messageAt r) m)
 
--- a response that is held, its signer waited for
-abbrev pub heldSlot : Ids → List ℕ → List ℕ → ResponseSlot
-heldSlot ids keys nonces = record { held = true; waits = true; ids = ids; «key_ids» = length keys / 4; nonces = length nonces / 66 }
+-- a response that is held, with the clock reading of its call; its signer is waited for
+abbrev pub heldSlot : ℕ → Ids → List ℕ → List ℕ → ResponseSlot
+heldSlot clock ids keys nonces =
+    record { held = true; waits = true; ids = ids; «key_ids» = length keys / 4; nonces = length nonces / 66; clock = clock }
 
-unfoldable pub addedRecords : ℕ → ℕ → Ids → List ℕ → List ℕ → List ℕ → Records → Records
-addedRecords r i ids m keys nonces rs =
-    setRow r (setSlot i (heldSlot ids keys nonces) (getD (opened r (length m) rs .rows) r noRow)) (opened r (length m) rs)
+unfoldable pub addedRecords : ℕ → ℕ → ℕ → Ids → List ℕ → List ℕ → List ℕ → Records → Records
+addedRecords clock r i ids m keys nonces rs =
+    setRow r (setSlot i (heldSlot clock ids keys nonces) (getD (opened r (length m) rs .rows) r noRow)) (opened r (length m) rs)
 
 unfoldable pub addedStore : ℕ → ℕ → List ℕ → List ℕ → List ℕ → Records → List ℕ → List ℕ
 addedStore r i m keys nonces rs store = put (put (openedStore r m rs store) (keysAt r i) keys) (noncesAt r i) nonces

@@ -63,6 +63,7 @@ fn open(records: Records, store: &mut [u8], r: usize, message: &[u8]) -> Records
         },
         key_ids: 0,
         nonces: 0,
+        clock: 0,
     };
     let slots = [empty; SIGNER_LIMIT];
     let row = SignRoundInfo {
@@ -75,10 +76,11 @@ fn open(records: Records, store: &mut [u8], r: usize, message: &[u8]) -> Records
     after
 }
 
-// The response of the signer in slot i, on record r.
+// The response of the signer in slot i, on record r, with the clock reading of its call.
 pub fn add(
     records: Records,
     store: &mut [u8],
+    clock: u64,
     r: usize,
     i: usize,
     ids: Ids,
@@ -87,7 +89,7 @@ pub fn add(
     nonces: &[u8],
 ) -> Records
     requires { ⌜ Placed records r i ⌝ }
-    ensures { λ u. ⌜ u ≡ addedRecords r i ids (now (message .entry)) (now («key_ids» .entry)) (now (nonces .entry)) records ⌝ }
+    ensures { λ u. ⌜ u ≡ addedRecords clock r i ids (now (message .entry)) (now («key_ids» .entry)) (now (nonces .entry)) records ⌝ }
     ensures { λ u. ⌜ now (store .exit)
         ≡ addedStore r i (now (message .entry)) (now («key_ids» .entry)) (now (nonces .entry)) records (now (store .entry)) ⌝ }
 {
@@ -101,6 +103,7 @@ pub fn add(
         ids,
         key_ids: key_ids.len() / 4,
         nonces: nonces.len() / 66,
+        clock,
     };
     let mut row = after.rows[r];
     row.slots[i] = slot;

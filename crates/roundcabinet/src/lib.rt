@@ -13,10 +13,10 @@ ghost use Rattle.layout.specs.Messages.{nonceRequest, dkgBegin, dkgSigner, dkgC
 ghost use Rattle.framing.specs.Writing.{writeMessage};
 ghost use Rattle.body.specs.Body.{requestOf};
 ghost use Rattle.requests.specs.Requests.{writeShareRequest};
-ghost use Rattle.writer.specs.Results.{writeNonceTimeout, writeInsufficientSigners};
+ghost use Rattle.writer.specs.Results.{writeNonceTimeout, writeInsufficientSigners, writeArrivals};
 ghost use Rattle.job.specs.Job.{writeJob};
 ghost use Rattle.responses.specs.Responses.{writeNonceResponse, writeSignatureShareResponse};
-ghost use Rattle.library_writers.specs.Given.{headOf, responseHeadOf, signersGiven, responsesOf, jobPlacesOf};
+ghost use Rattle.library_writers.specs.Given.{headOf, responseHeadOf, signersGiven, arrivalsGiven, responsesOf, jobPlacesOf};
 ghost use Rattle.library_writers.specs.Written.{typed, WrotePlain};
 ghost use Rattle.state_bytes.specs.Saved.{stateLength};
 ghost use Rattle.interface.specs.Configs.{configOf, isYes};
@@ -25,6 +25,7 @@ ghost use Rattle.library_commission.specs.Commissioned.{commissionedTurn};
 ghost use Rattle.calls.specs.Calls.{setKeyTurn, aggregatedTurn};
 ghost use Rattle.calls.specs.Resets.{resetTurn};
 ghost use Rattle.results.specs.Results.{resultsTurn};
+ghost use Rattle.arrivals.specs.Query.{arrivalsTurn};
 ghost use Rattle.state_bytes.specs.Loaded.{isSaved, loaded};
 ghost use Rattle.library_start.specs.Given.{signIdGiven, startedTurn, movedTurn};
 ghost use Rattle.packet_entry.specs.declared.Entry.the-variants.{Process, ProcessMessage};
@@ -36,6 +37,7 @@ use interface::answers::RcAnswer;
 use interface::configs::RcConfig;
 use library_reader::RcPacket;
 use library_reader::RcPart;
+use library_writers::given::RcArrivals;
 use library_writers::given::RcHead;
 use library_writers::given::RcJobPlaces;
 use library_writers::given::RcResponseHead;
@@ -45,7 +47,7 @@ use library_writers::responses_written;
 use library_writers::written;
 use library_writers::written::RcWritten;
 
-const VERSION: u32 = 768;
+const VERSION: u32 = 1024;
 
 // The version of the library that is linked, for a host to hold against the header's.
 #[no_mangle]
@@ -174,6 +176,15 @@ pub extern "C" fn rc_process_timeout(
         (now (state .entry)) (now (out .entry)) r (now (state .exit)) (now (store .entry)) (now (out .exit)) ⌝ }
 {
     library_process::process_timeout(state, store, out, clock)
+}
+
+#[no_mangle]
+pub extern "C" fn rc_tell_arrivals(state: &[u8], store: &[u8], out: &mut [u8]) -> RcAnswer
+    ensures { λ r. ⌜ Called (isSaved (now (state .entry)))
+        (arrivalsTurn (length (now (out .entry))) (loaded (now (state .entry))) (now (store .entry)))
+        (now (state .entry)) (now (out .entry)) r (now (state .entry)) (now (store .entry)) (now (out .exit)) ⌝ }
+{
+    library_queries::tell_arrivals(state, store, out)
 }
 
 #[no_mangle]
@@ -308,6 +319,14 @@ pub extern "C" fn rc_write_insufficient_signers(out: &mut [u8], malicious: RcSig
         (now (out .entry)) r (now (out .exit)) ⌝ }
 {
     written::write_insufficient_signers(out, malicious)
+}
+
+#[no_mangle]
+pub extern "C" fn rc_write_arrivals(out: &mut [u8], given: RcArrivals) -> RcWritten
+    ensures { λ r. ⌜ WrotePlain (writeArrivals (length (now (out .entry))) (arrivalsGiven given))
+        (now (out .entry)) r (now (out .exit)) ⌝ }
+{
+    written::write_arrivals(out, given)
 }
 
 // A signer's writers: 9, then 26.

@@ -21,6 +21,7 @@ use state_bytes::SIGN_ID;
 use state_bytes::SIGN_ITER_ID;
 use state_bytes::SIGN_START;
 use state_bytes::SIGN_TIMEOUT;
+use state_bytes::SLOT_CLOCK;
 use state_bytes::SLOT_IDS;
 use state_bytes::SLOT_KEY_IDS;
 use state_bytes::SLOT_NONCES;
@@ -87,6 +88,7 @@ pub fn put_slot(out: &mut [u8], at: usize, r: ResponseSlot)
     put_ids(out, at + SLOT_IDS, ids);
     wire::put_number(out, at + SLOT_KEY_IDS, EIGHT, r.key_ids as u64);
     wire::put_number(out, at + SLOT_NONCES, EIGHT, r.nonces as u64);
+    wire::put_number(out, at + SLOT_CLOCK, EIGHT, r.clock);
 }
 
 pub fn put_clocks(out: &mut [u8], at: usize, c: Clocks)

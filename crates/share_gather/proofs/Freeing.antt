@@ -14,6 +14,7 @@ use lib.Seq.{getD-set-same, getD-set-other}
 use Rattle.wire.specs.Bytes.{every}
 use Rattle.wire.proofs.Lists.{and-left, and-right, and-both, all-imp}
 use Rattle.layout.specs.Limits.{messageLimit, signerLimit, recordLimit}
+use Rattle.pieces.specs.Places.{responseAt}
 use Rattle.step_definition.specs.Ids.{remove}
 use Rattle.step_definition.specs.Coordinator as C
 use Rattle.step_definition.specs.Effects.{freeing}
@@ -21,10 +22,11 @@ use Rattle.state.specs.declared.fields.ResponseSlot.{ResponseSlot}
 use Rattle.state.specs.declared.fields.SignRoundInfo.{SignRoundInfo}
 use Rattle.state.specs.declared.fields.SignerSlot.{SignerSlot}
 use Rattle.state.specs.declared.fields.Coordinator.{Coordinator}
-use Rattle.state.specs.Slots.{signerSlot, slotsFrom, slotFrom, collect}
+use Rattle.state.specs.Slots.{signerSlot, slotsFrom, slotFrom, collect, when}
 use Rattle.state.specs.Setters.{setSlot}
 use Rattle.state.specs.Counts.{slotWithin, rowWithin, recordsWithin, isWithin}
-use Rattle.state.specs.View.{idsOf, slotsOf, noRow, noSlot, placeOf, heldIn, waitsIn, rowOf, recordsOf, coordinatorOf, roundOf, standingOf}
+use Rattle.state.specs.View.{messageAt, keysAt, noncesAt, idsOf, slotsOf, noRow, noSlot, placeOf, heldIn, arrivalIn, waitsIn, rowOf}
+use Rattle.state.specs.View.{recordsOf, coordinatorOf, roundOf, standingOf}
 use Rattle.state.proofs.Arrays.{every-set}
 use Rattle.state.proofs.SignerSlots.{slots-rise, slots-one, slot-in}
 use Rattle.state.proofs.Collect.{when-some, collect-same}
@@ -53,14 +55,30 @@ module _ (store : List ℕ) (r i : ℕ) (row : SignRoundInfo) (low : i < length 
   abbrev x : ResponseSlot
   x = freedSlot (getD (row .slots) i noSlot)
 
-  -- each response is as it was
+  -- what doesn't look at who waits is as it was: each response, and when it came
+  unseen : {A : Type 0} (f : ResponseSlot → A) → ((y : ResponseSlot) → f (freedSlot y) ≡ f y) → (j : ℕ)
+      → f (getD (set (row .slots) i x) j noSlot) ≡ f (getD (row .slots) j noSlot)
+  unseen f same j = by (eqb j i) refl
+    where
+      by : (b : Bool) → eqb j i ≡ b → f (getD (set (row .slots) i x) j noSlot) ≡ f (getD (row .slots) j noSlot)
+      by true q = rw (eqb-true j i q, getD-set-same (row .slots) i x noSlot low) (same (getD (row .slots) i noSlot))
+      by false q = rw (getD-set-other (row .slots) i j x noSlot (eqb-false j i q))
+
   held-same : (e : SignerSlot) → heldIn r (row .message) store (set (row .slots) i x) e ≡ heldIn r (row .message) store (row .slots) e
   unfolding placeOf
-  held-same e = by (eqb (e .slot) i) refl
-    where
-      by : (b : Bool) → eqb (e .slot) i ≡ b → heldIn r (row .message) store (set (row .slots) i x) e ≡ heldIn r (row .message) store (row .slots) e
-      by true q = rw (eqb-true (e .slot) i q, getD-set-same (row .slots) i x noSlot low)
-      by false q = rw (getD-set-other (row .slots) i (e .slot) x noSlot (eqb-false (e .slot) i q))
+  held-same e =
+      unseen
+      (λ (y : ResponseSlot). when (y .held) (responseAt store (record {
+        ids = y .ids;
+        «signer_id» = record { 0 = e .id };
+        message = record { at = messageAt r; count = row .message };
+        «key_ids» = record { at = keysAt r (e .slot); count = y .«key_ids» };
+        nonces = record { at = noncesAt r (e .slot); count = y .nonces };
+      })))
+      (λ y. refl) (e .slot)
+
+  came-same : (e : SignerSlot) → arrivalIn (set (row .slots) i x) e ≡ arrivalIn (row .slots) e
+  came-same e = unseen (λ (y : ResponseSlot). when (y .held) (record { signer-id = e .id; clock = y .clock })) (λ y. refl) (e .slot)
 
   waits-other : (id : ℕ) (e : SignerSlot) → (e .slot ≡ i → e .id ≡ id) → (e .id ≡ id → ⊥) → waitsIn (set (row .slots) i x) e ≡ waitsIn (row .slots) e
   waits-other id e same ne = rw (getD-set-other (row .slots) i (e .slot) x noSlot (λ p. ne (same p)))
@@ -77,10 +95,12 @@ module _ (store : List ℕ) (r i : ℕ) (row : SignRoundInfo) (low : i < length 
       let es = slotsFrom 0 ids in
       let a : collect (heldIn r (row .message) store (set (row .slots) i x)) es ≡ collect (heldIn r (row .message) store (row .slots)) es =
       collect-same (heldIn r (row .message) store (set (row .slots) i x)) (heldIn r (row .message) store (row .slots)) es (all-imp es (λ (e : SignerSlot) (o : e .slot ≡ i → e .id ≡ id). held-same e) (slots-one id ids i found)) in
+      let t : collect (arrivalIn (set (row .slots) i x)) es ≡ collect (arrivalIn (row .slots)) es =
+      collect-same (arrivalIn (set (row .slots) i x)) (arrivalIn (row .slots)) es (all-imp es (λ (e : SignerSlot) (o : e .slot ≡ i → e .id ≡ id). came-same e) (slots-one id ids i found)) in
       let b : collect (waitsIn (set (row .slots) i x)) es ≡ remove id (collect (waitsIn (row .slots)) es) =
       collect-remove (waitsIn (row .slots)) waits-own (waitsIn (set (row .slots) i x)) (signerSlot id i) es (waits-no-more id) (slots-rise 0 ids) (slot-in id 0 ids i found)
       (all-imp es (λ (e : SignerSlot) (o : e .slot ≡ i → e .id ≡ id). waits-other id e o) (slots-one id ids i found)) in
-      rw (a, b)
+      rw (a, t, b)
 
 row-within : (n i : ℕ) (row : SignRoundInfo) → i < n → rowWithin n row ≡ true → rowWithin n (setSlot i (freedSlot (getD (row .slots) i noSlot)) row) ≡ true
 unfolding rowWithin slotWithin

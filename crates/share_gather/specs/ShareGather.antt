@@ -25,7 +25,7 @@ use Rattle.share_taking.specs.Taking.{takeTurn}
 
 -- "Waiter removed": nothing else of its slot changes
 abbrev pub freedSlot : ResponseSlot → ResponseSlot
-freedSlot x = record { held = x .held; waits = false; ids = x .ids; «key_ids» = x .«key_ids»; nonces = x .nonces }
+freedSlot x = record { held = x .held; waits = false; ids = x .ids; «key_ids» = x .«key_ids»; nonces = x .nonces; clock = x .clock }
 
 abbrev pub freedRecords : ℕ → ℕ → Records → Records
 freedRecords r i rs = setRow r (setSlot i (freedSlot (slotAt rs r i)) (getD (rs .rows) r noRow)) rs

@@ -17,7 +17,7 @@ use Rattle.state.specs.Slots.{collect, withSome}
 use Rattle.state.specs.View.{flaggedIn, waitsIn, noSlot}
 use Rattle.signer_ids.specs.Flags.{isWaiting}
 
-map-set : {A B : Type 0} (f : A → B) (xs : List A) (i : ℕ) (x : A) → map f (set xs i x) ≡ set (map f xs) i (f x)
+pub map-set : {A B : Type 0} (f : A → B) (xs : List A) (i : ℕ) (x : A) → map f (set xs i x) ≡ set (map f xs) i (f x)
 map-set f [] i x = refl
 map-set f (y ∷ ys) zero x = refl
 map-set f (y ∷ ys) (suc i) x = rw (map-set f ys i x)

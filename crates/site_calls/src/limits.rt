@@ -84,7 +84,7 @@ pub fn tell(fault: u8) {
 pub fn is_letter(b: u8) -> bool {
     match b {
         b'B' | b'C' | b'K' | b'E' | b'Q' | b'S' => true,
-        b'P' | b'M' | b'T' | b'A' | b'Z' => true,
+        b'P' | b'M' | b'T' | b'A' | b'Z' | b'W' => true,
         _ => false,
     }
 }

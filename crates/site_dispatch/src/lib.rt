@@ -73,6 +73,7 @@ pub fn call(letter: u8, args: &[u8], s: Coordinator, store: &mut [u8], out: &mut
         b'M' => process_message(s, store, out, args),
         b'T' => process_timeout(s, store, out, args),
         b'A' => coordinator::aggregated(s, store, configs::flag(args, 0)),
+        b'W' => coordinator::tell_arrivals(s, store, out),
         _ => coordinator::reset(s, store),
     }
 }

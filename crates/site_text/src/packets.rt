@@ -2,6 +2,9 @@
 use layout::Ids;
 use script::print;
 
+// A clock reading has eight bytes.
+const READING_LENGTH: usize = 8;
+
 // Bytes as hexadecimal digits, `-` for none.
 fn hex(name: &[u8], s: &[u8]) {
     print::text(name);
@@ -20,6 +23,25 @@ fn ids(name: &[u8], s: &[u8]) {
     print::text(name);
     print::either(s.len() < layout::ID_LENGTH, b" -", b"");
     print::ids(s);
+}
+
+fn reading(n: u64) {
+    print::field(b" ", n);
+}
+
+fn each_reading(s: &[u8]) {
+    let mut i: usize = 0;
+    while i < s.len() / READING_LENGTH {
+        reading(wire::u64_at(s, READING_LENGTH * i));
+        i += 1;
+    }
+}
+
+// Clock readings, `-` for none.
+fn readings(name: &[u8], s: &[u8]) {
+    print::text(name);
+    print::either(s.len() < READING_LENGTH, b" -", b"");
+    each_reading(s);
 }
 
 fn round(i: Ids) {
@@ -94,6 +116,10 @@ pub fn fields(s: &[u8]) {
             ids(b", struck", frame::part_at(s, 1));
         }
         34 => ids(b"insufficient signers, struck", frame::part_at(s, 0)),
+        35 => {
+            ids(b"arrivals, signers", frame::part_at(s, 0));
+            readings(b", readings", frame::part_at(s, 1));
+        }
         _ => print::field(b"kind ", kind as u64),
     }
 }

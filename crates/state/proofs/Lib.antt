@@ -11,6 +11,7 @@ pub mod Within
 pub mod LiveCounts
 pub mod Store
 pub mod Viewed
+pub mod Arrivals
 pub mod Shape
 pub mod Refines
 pub mod Limits

@@ -30,7 +30,9 @@ use Rattle.state.specs.declared.fields.SignRoundInfo.{SignRoundInfo}
 use Rattle.state.specs.declared.fields.Coordinator.{Coordinator}
 use Rattle.state.specs.Slots.{signerSlot, placeSlot, slotsFrom, collect, withSome, when}
 use Rattle.state.specs.Counts.{sum, entries, entryWithin, keyCount, rowWithin, sharesWithin, isWithin}
-use Rattle.state.specs.View.{messageAt, keysAt, noncesAt, sharesAt, shareKeysAt, idsOf, slotsOf, noEntry, noSlot, noShares, signerIn, configOf, placeOf, heldIn, waitsIn, flaggedIn, sharesIn, rowOf, rowsFrom, standingOf, roundOf, coordinatorOf, entryId, heldIf, view}
+use Rattle.state.specs.View.{messageAt, keysAt, noncesAt, sharesAt, shareKeysAt, idsOf, slotsOf, noEntry, noSlot, noShares, signerIn}
+use Rattle.state.specs.View.{configOf, placeOf, heldIn, arrivalIn, waitsIn, flaggedIn, sharesIn, rowOf, rowsFrom, standingOf, roundOf}
+use Rattle.state.specs.View.{coordinatorOf, entryId, heldIf, view}
 use Rattle.state.proofs.Arrays.{every-get}
 use Rattle.state.proofs.SignerSlots.{ids-short, slots-live}
 use Rattle.state.proofs.Collect.{collect-length, collect-every}
@@ -180,11 +182,12 @@ module _ (s : Coordinator) (store : List ℕ) (w : Within s) where
   unfolding W.recordWithin rowOf L.responseWithin responseAt placeOf
   row-limits r row g =
       let m = row-message n row g in
-      and-both _ _ (and-both _ _ (and-both _ _
+      and-both _ _ (and-both _ _ (and-both _ _ (and-both _ _
       (le-leb (length (bytesAt 1 (record { at = messageAt r; count = row .message }) store)) messageLimit (omega (arith, bytes-few 1 (messageAt r) (row .message) store)))
       (le-leb _ signerLimit (ten (heldIn r (row .message) store (row .slots)))))
       (collect-every L.responseWithin (heldIn r (row .message) store (row .slots)) es
       (all-imp es (λ (e : SignerSlot) (l : e .slot < n) (x : NonceResponse) (q : heldIn r (row .message) store (row .slots) e ≡ some x). response e l x q) (slots-live (s .config)))))
+      (le-leb _ signerLimit (ten (arrivalIn (row .slots)))))
       (le-leb _ signerLimit (ten (waitsIn (row .slots))))
     where
       response : (e : SignerSlot) → e .slot < n → (x : NonceResponse) → heldIn r (row .message) store (row .slots) e ≡ some x → L.responseWithin x ≡ true

@@ -7,7 +7,7 @@ use mathlib.Core.Option.{Option, some, none}
 use lib.ListN.{length, replicate}
 use Rattle.layout.specs.declared.Ids.{Ids}
 use Rattle.layout.specs.declared.SignatureType.the-variants.{Frost, Schnorr, Taproot, TaprootRoot}
-use Rattle.layout.specs.Messages.{Nonce, NonceResponse, SignatureShare}
+use Rattle.layout.specs.Messages.{Arrival, Nonce, NonceResponse, SignatureShare}
 use Rattle.validity.specs.declared.keys.KeyIds.{KeyIds}
 use Rattle.validity.specs.Keys.{keyOf}
 use Rattle.state_table.specs.declared.State.{State}
@@ -102,16 +102,21 @@ configWith nonce verify =
 abbrev ids : ℕ → ℕ → ℕ → Ids
 ids dkg sign iteration = record { «dkg_id» = dkg; «sign_id» = sign; «sign_iter_id» = iteration }
 
+-- a slot whose response came at this reading; at 0
+abbrev slotAt : Bool → Bool → Ids → ℕ → ℕ → ℕ → ResponseSlot
+slotAt held waits i keys nonces clock =
+    record { held = held; waits = waits; ids = i; «key_ids» = keys; nonces = nonces; clock = clock }
+
 abbrev slot : Bool → Bool → Ids → ℕ → ℕ → ResponseSlot
-slot held waits i keys nonces = record { held = held; waits = waits; ids = i; «key_ids» = keys; nonces = nonces }
+slot held waits i keys nonces = slotAt held waits i keys nonces 0
 
 -- of record 0 slots 0 and 1 are held, and 1 waits; slot 2 is not held, and so doesn't wait whatever its flag says. Of record 1 slot 2 is
 -- held and waits
 abbrev records : Records
 records =
     let no = ids 0 0 0 in
-    let row0 = slot true false (ids 31 32 33) 1 1 ∷ slot true true (ids 34 35 36) 2 1 ∷ slot false true no 1 1 ∷ [] in
-    let row1 = slot false false no 1 1 ∷ slot false true no 1 1 ∷ slot true true (ids 37 38 39) 1 2 ∷ [] in
+    let row0 = slotAt true false (ids 31 32 33) 1 1 91 ∷ slotAt true true (ids 34 35 36) 2 1 92 ∷ slotAt false true no 1 1 93 ∷ [] in
+    let row1 = slotAt false false no 1 1 94 ∷ slotAt false true no 1 1 95 ∷ slotAt true true (ids 37 38 39) 1 2 96 ∷ [] in
     let row2 = slot true true no 1 1 ∷ [] in
     record {
       rows = record { message = 2; slots = row0 } ∷ record { message = 1; slots = row1 } ∷ record { message = 1; slots = row2 } ∷ [];
@@ -166,6 +171,9 @@ nonce d e = record { D = replicate 33 d; E = replicate 33 e }
 abbrev response : Ids → ℕ → List ℕ → List ℕ → List Nonce → NonceResponse
 response i id message keys nonces = record { ids = i; signer-id = id; message = message; key-ids = keys; nonces = nonces }
 
+abbrev came : ℕ → ℕ → Arrival
+came id clock = record { signer-id = id; clock = clock }
+
 abbrev share : ℕ → ℕ → List ℕ → SignatureShare
 share id z keys = record { id = id; z-i = replicate 32 z; key-ids = keys }
 
@@ -180,11 +188,13 @@ roundWith clocks =
                 response (ids 34 35 36) 10 (11 ∷ 12 ∷ []) (4 ∷ 6 ∷ []) (nonce 63 64 ∷ [])
                 ∷ response (ids 31 32 33) 30 (11 ∷ 12 ∷ []) (5 ∷ []) (nonce 61 62 ∷ [])
                 ∷ [];
+            arrivals = came 10 92 ∷ came 30 91 ∷ [];
             sign-wait-signer-ids = 10 ∷ [];
           }
           ∷ record {
             message = 13 ∷ [];
             public-nonces = response (ids 37 38 39) 20 (13 ∷ []) (9 ∷ []) (nonce 65 66 ∷ nonce 67 68 ∷ []) ∷ [];
+            arrivals = came 20 96 ∷ [];
             sign-wait-signer-ids = 20 ∷ [];
           }
           ∷ [];

@@ -6,7 +6,7 @@ use mathlib.Core.Option.{Option, some, none}
 use lib.ListN.{take, getD}
 use Rattle.layout.specs.Limits.{messageLimit}
 use Rattle.layout.specs.Types.{typeNumber, rootLength}
-use Rattle.layout.specs.Messages.{NonceResponse}
+use Rattle.layout.specs.Messages.{NonceResponse, Arrival}
 use Rattle.layout.specs.Encode.{noIds}
 use Rattle.state_table.specs.declared.StateType.{StateType}
 use Rattle.state_table.specs.declared.StateType.the-variants.{Untyped, Typed}
@@ -88,7 +88,7 @@ abbrev pub noEntry : SignerEntry
 noEntry = record { id = record { 0 = 0 }; «has_keys» = false; keys = record { ids = []; count = 0 } }
 
 abbrev pub noSlot : ResponseSlot
-noSlot = record { held = false; waits = false; ids = noIds; «key_ids» = 0; nonces = 0 }
+noSlot = record { held = false; waits = false; ids = noIds; «key_ids» = 0; nonces = 0; clock = 0 }
 
 abbrev pub noRow : SignRoundInfo
 noRow = record { message = 0; slots = [] }
@@ -145,6 +145,11 @@ placeOf r n slots e =
 abbrev pub heldIn : ℕ → ℕ → List ℕ → List ResponseSlot → SignerSlot → Option NonceResponse
 heldIn r n store slots e = when (getD slots (e .slot) noSlot .held) (responseAt store (placeOf r n slots e))
 
+-- a response's arrival: its signer and the clock reading of its call
+abbrev pub arrivalIn : List ResponseSlot → SignerSlot → Option Arrival
+arrivalIn slots e =
+    when (getD slots (e .slot) noSlot .held) (record { signer-id = e .id; clock = getD slots (e .slot) noSlot .clock })
+
 abbrev pub waitsIn : List ResponseSlot → SignerSlot → Option ℕ
 waitsIn slots e = when (getD slots (e .slot) noSlot .held && getD slots (e .slot) noSlot .waits) (e .id)
 
@@ -153,6 +158,7 @@ rowOf es store r row =
     record {
       message = bytesAt 1 (record { at = messageAt r; count = row .message }) store;
       public-nonces = collect (heldIn r (row .message) store (row .slots)) es;
+      arrivals = collect (arrivalIn (row .slots)) es;
       sign-wait-signer-ids = collect (waitsIn (row .slots)) es;
     }
 

@@ -42,13 +42,14 @@ pub struct Config {
     pub verify_packet_sigs: bool,
 }
 
-// What is known of one signer's response to one message; its lists lie in the store.
+// What is known of one signer's response to one message; its lists lie in the store. clock: the reading of the call that brought it.
 pub struct ResponseSlot {
     pub held: bool,
     pub waits: bool,
     pub ids: Ids,
     pub key_ids: usize,
     pub nonces: usize,
+    pub clock: u64,
 }
 
 // The responses to one message, a slot for each configured signer.

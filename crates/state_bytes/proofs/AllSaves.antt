@@ -142,7 +142,10 @@ config-fits c vs g =
 
 pub slot-fits : (r : ResponseSlot) (vs : List Val) → Is ResponseSlot-row.the-row r vs → slotForm .Fits r
 unfolding slotForm pieces
-slot-fits r vs g = (tt, (tt, (ids-fit (r .ids) _ (g .1 .1 .1 .1 .0), (g .1 .1 .1 .1 .1 .0 .1, (g .1 .1 .1 .1 .1 .1 .0 .1, tt)))))
+slot-fits r vs g =
+    let ids = ids-fit (r .ids) _ (g .1 .1 .1 .1 .0) in
+    let numbers = g .1 .1 .1 .1 .1 in
+    (tt, (tt, (ids, (numbers .0 .1, (numbers .1 .0 .1, (numbers .1 .1 .0 .1, tt))))))
 
 pub row-fits : (r : SignRoundInfo) (vs : List Val) → Is SignRoundInfo-row.the-row r vs → rowForm .Fits r
 unfolding rowForm pieces

@@ -1,4 +1,4 @@
--- The state that bytes say lies in their first 3,200: what stands after them, and how much of it is lent, does not count.
+-- The state that bytes say lies in their first 3,520: what stands after them, and how much of it is lent, does not count.
 -- Assumes nothing.
 use Prim.Native.Nat.{ℕ, _≤_, _<_}
 use mathlib.Core.Path.{_≡_, refl}

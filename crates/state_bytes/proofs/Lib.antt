@@ -4,4 +4,5 @@ pub mod Loads
 pub mod Front
 pub mod AllSaves
 pub mod Tested
+pub mod Moved
 pub mod Table

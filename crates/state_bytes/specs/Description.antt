@@ -1,5 +1,5 @@
--- The coordinator's state as bytes, described once: the fields in the order of the struct, each with its form. What a save writes, where each field
--- stands, what bytes say and whether a save left them follow from this (form, Form.antt).
+-- The coordinator's state as bytes, described once: the fields in the order of the struct, each with its form. What a save writes, where
+-- each field stands, what bytes say and whether a save left them follow from this (form, Form.antt).
 use Prim.Native.Nat.{ℕ}
 use mathlib.Core.Bool.{Bool, true, false, cond, not, _&&_, _||_}
 use mathlib.Core.List.{List, []}
@@ -36,7 +36,8 @@ use Rattle.state.specs.declared.fields.Message.{Message}
 use Rattle.state.specs.declared.fields.Clocks.{Clocks}
 use Rattle.state.specs.declared.fields.Keys.{Keys}
 use Rattle.state.specs.declared.fields.Coordinator.{Coordinator}
-use Rattle.form.specs.Form.{Form, Fields, Like, Code, number, byte, flag, bytes, constant, each, field, end, _▸_, tuple, _&_, like, enum, pieces}
+use Rattle.form.specs.Form.{Form, Fields, Like, Code, number, byte, flag, bytes, constant, each, field, end, _▸_, tuple, _&_}
+use Rattle.form.specs.Form.{like, enum, pieces}
 use Rattle.state_bytes.specs.Version.{mark, version}
 
 -- a clock reading or a timeout: whether there is one, and the number, 0 where there is none
@@ -90,7 +91,8 @@ signerForm =
     like
     (record {
       apart = λ e. e .id .0 & e .«has_keys» & e .keys .ids & e .keys .count & tt;
-      whole = λ (id, (has, (ids, (count, u)))). record { id = record { 0 = id }; «has_keys» = has; keys = record { ids = ids; count = count } };
+      whole = λ (id, (has, (ids, (count, u)))).
+          record { id = record { 0 = id }; «has_keys» = has; keys = record { ids = ids; count = count } };
     })
     (tuple
     (field "id" (number 4)
@@ -207,13 +209,14 @@ messageForm =
     ▸ field "len" (number 8)
     ▸ end))
 
--- a response: its lists lie in the store
+-- a response: its lists lie in the store; clock is the reading of the call that brought it
 unfoldable pub slotForm : Form ResponseSlot
 slotForm =
     like
     (record {
-      apart = λ r. r .held & r .waits & r .ids & r .«key_ids» & r .nonces & tt;
-      whole = λ (held, (waits, (ids, (keys, (nonces, u))))). record { held = held; waits = waits; ids = ids; «key_ids» = keys; nonces = nonces };
+      apart = λ r. r .held & r .waits & r .ids & r .«key_ids» & r .nonces & r .clock & tt;
+      whole = λ (held, (waits, (ids, (keys, (nonces, (clock, u)))))).
+          record { held = held; waits = waits; ids = ids; «key_ids» = keys; nonces = nonces; clock = clock };
     })
     (tuple
     (field "held" flag
@@ -221,6 +224,7 @@ slotForm =
     ▸ field "ids" idsForm
     ▸ field "key_ids" (number 8)
     ▸ field "nonces" (number 8)
+    ▸ field "clock" (number 8)
     ▸ end))
 
 -- a record: the length of its message, and a response for each signer
@@ -259,7 +263,10 @@ shareForm =
 unfoldable pub marksForm : Form Marks
 marksForm =
     like
-    (record { apart = λ m. m .ended & m .malicious & tt; whole = λ (ended, (malicious, u)). record { ended = ended; malicious = malicious } })
+    (record {
+      apart = λ m. m .ended & m .malicious & tt;
+      whole = λ (ended, (malicious, u)). record { ended = ended; malicious = malicious };
+    })
     (tuple
     (field "ended" (each signerLimit flag)
     ▸ field "malicious" (each signerLimit flag)
@@ -297,7 +304,8 @@ coordinatorForm =
       apart = λ s.
           tt & tt & s .commissioned & s .config & s .ids & s .position & s .message & s .records
           & s .shares .slots & s .marks & s .clocks & s .keys & s .job & tt & tt;
-      whole = λ (m, (v, (commissioned, (config, (ids, (position, (message, (records, (slots, (marks, (clocks, (keys, (job, (z, u)))))))))))))).
+      whole = λ
+          (m, (v, (commissioned, (config, (ids, (position, (message, (records, (slots, (marks, (clocks, (keys, (job, (z, u)))))))))))))).
           record {
             commissioned = commissioned;
             config = config;
@@ -331,6 +339,6 @@ coordinatorForm =
 
 -- to unfold this is to unfold the whole description
 unfoldable pub description : Unit {0}
-unfolding pieces readingParts readingForm timeoutsForm keyForm signerForm configForm idsForm stateParts stateForm positionForm messageForm slotForm
-    rowForm recordsForm shareForm marksForm clocksForm keysForm coordinatorForm le
+unfolding pieces readingParts readingForm timeoutsForm keyForm signerForm configForm idsForm stateParts stateForm positionForm messageForm
+    slotForm rowForm recordsForm shareForm marksForm clocksForm keysForm coordinatorForm le
 description = tt

@@ -1,5 +1,5 @@
--- The saved form as a table: each field's name and its bytes, for a struct with a value of its own in each field. The bytes of the table one after
--- the other are all that is saved, so each field stands after the bytes of those before it.
+-- The saved form as a table: each field's name and its bytes, for a struct with a value of its own in each field. The bytes of the table
+-- one after the other are all that is saved, so each field stands after the bytes of those before it.
 use Prim.Native.Nat.{ℕ, _+_}
 use Prim.Native.String.{String}
 use mathlib.Core.Bool.{Bool, true, false}
@@ -66,7 +66,13 @@ config verify =
       threshold = n4 13;
       «dkg_threshold» = n4 14;
       «sign_threshold» = n4 15;
-      timeouts = record { «dkg_public» = At (n8 21); «dkg_private» = Never; «dkg_end» = At (n8 23); nonce = At (n8 24); sign = At (n8 25) };
+      timeouts = record {
+        «dkg_public» = At (n8 21);
+        «dkg_private» = Never;
+        «dkg_end» = At (n8 23);
+        nonce = At (n8 24);
+        sign = At (n8 25);
+      };
       signers = entry 31 true 32 33 34 ∷ entry 35 false 36 37 38 ∷ replicate 8 (entry 0 false 0 0 0);
       count = n8 39;
       «verify_packet_sigs» = verify;
@@ -74,7 +80,7 @@ config verify =
 
 abbrev slot : Bool → Bool → ℕ → ResponseSlot
 slot held waits n =
-    record { held = held; waits = waits; ids = ids n (n + 1) (n + 2); «key_ids» = n8 (n + 3); nonces = n8 (n + 4) }
+    record { held = held; waits = waits; ids = ids n (n + 1) (n + 2); «key_ids» = n8 (n + 3); nonces = n8 (n + 4); clock = n8 (n + 5) }
 
 abbrev none : ResponseSlot
 none = slot false false 0
@@ -120,7 +126,7 @@ flag true = 1 ∷ []
 flag false = 0 ∷ []
 
 abbrev noSlot : List ℕ
-noSlot = 0 ∷ 0 ∷ (eight 0 ++ eight 1 ++ eight 2 ++ eight 3 ++ eight 4)
+noSlot = 0 ∷ 0 ∷ (eight 0 ++ eight 1 ++ eight 2 ++ eight 3 ++ eight 4 ++ eight 5)
 
 abbrev times : ℕ → List ℕ → List ℕ
 times n bytes = joined (replicate n bytes)
@@ -129,7 +135,7 @@ times n bytes = joined (replicate n bytes)
 abbrev head : Flags → List Field
 head f =
     field "mark, ROUNDCAB" (82 ∷ 79 ∷ 85 ∷ 78 ∷ 68 ∷ 67 ∷ 65 ∷ 66 ∷ [])
-    ∷ field "version" (1 ∷ replicate 7 0)
+    ∷ field "version" (2 ∷ replicate 7 0)
     ∷ field "commissioned" (flag (f .commissioned))
     ∷ field "num_signers" (four 11)
     ∷ field "num_keys" (four 12)
@@ -173,7 +179,7 @@ middle =
     ∷ field "length of the message" (eight 48)
     ∷ []
 
--- four records of 428 bytes: the length of the message, and ten slots of 42
+-- four records of 508 bytes: the length of the message, and ten slots of 50
 abbrev records : List Field
 records =
     field "record 0, length of the message" (eight 51)
@@ -184,10 +190,11 @@ records =
     ∷ field "record 0, slot 0, sign_iter_id" (eight 62)
     ∷ field "record 0, slot 0, count of key ids" (eight 63)
     ∷ field "record 0, slot 0, count of nonces" (eight 64)
-    ∷ field "record 0, slot 1" (0 ∷ 1 ∷ (eight 70 ++ eight 71 ++ eight 72 ++ eight 73 ++ eight 74))
+    ∷ field "record 0, slot 0, clock" (eight 65)
+    ∷ field "record 0, slot 1" (0 ∷ 1 ∷ (eight 70 ++ eight 71 ++ eight 72 ++ eight 73 ++ eight 74 ++ eight 75))
     ∷ field "record 0, slots 2 to 9" (times 8 noSlot)
     ∷ field "record 1, length of the message" (eight 52)
-    ∷ field "record 1, slot 0" (1 ∷ 1 ∷ (eight 80 ++ eight 81 ++ eight 82 ++ eight 83 ++ eight 84))
+    ∷ field "record 1, slot 0" (1 ∷ 1 ∷ (eight 80 ++ eight 81 ++ eight 82 ++ eight 83 ++ eight 84 ++ eight 85))
     ∷ field "record 1, slots 1 to 9" (times 9 noSlot)
     ∷ field "records 2 and 3" (times 2 (eight 0 ++ times 10 noSlot))
     ∷ field "count of records" (eight 53)

@@ -1,7 +1,7 @@
 // The coordinator's state as bytes: where each field stands. What stands there is described in specs/.
 
-// A struct's first field stands at its beginning; each other as many bytes after it as the fields before take. The file is Rust too: the comparison with
-// fire.rs includes it.
+// A struct's first field stands at its beginning; each other as many bytes after it as the fields before take. The file is Rust too: the
+// comparison with fire.rs includes it.
 use layout::LIST_LIMIT;
 use layout::MESSAGE_LIMIT;
 use layout::RECORD_LIMIT;
@@ -9,7 +9,7 @@ use layout::ROOT_LENGTH;
 use layout::SIGNER_LIMIT;
 
 // The version that a saved state says.
-pub const VERSION: u64 = 1;
+pub const VERSION: u64 = 2;
 
 // The bytes of a flag or a number below 256, of a u32, of a u64 or a usize.
 pub const ONE: usize = 1;
@@ -85,7 +85,7 @@ pub const MESSAGE_LEN: usize = MESSAGE_LIMIT;
 
 pub const MESSAGE_BYTES: usize = MESSAGE_LEN + EIGHT;
 
-// A response slot: held, waits, ids, how many key ids, how many nonces.
+// A response slot: held, waits, ids, how many key ids, how many nonces, the clock reading of its call.
 pub const WAITS: usize = ONE;
 
 pub const SLOT_IDS: usize = WAITS + ONE;
@@ -94,7 +94,9 @@ pub const SLOT_KEY_IDS: usize = SLOT_IDS + IDS_BYTES;
 
 pub const SLOT_NONCES: usize = SLOT_KEY_IDS + EIGHT;
 
-pub const SLOT_BYTES: usize = SLOT_NONCES + EIGHT;
+pub const SLOT_CLOCK: usize = SLOT_NONCES + EIGHT;
+
+pub const SLOT_BYTES: usize = SLOT_CLOCK + EIGHT;
 
 // A record: the length of its message, a slot for each signer. Then all records, and how many of them count.
 pub const SLOTS: usize = EIGHT;

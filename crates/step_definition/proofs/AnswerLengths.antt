@@ -16,20 +16,21 @@ use Rattle.layout.specs.Limits.{messageLimit, signerLimit, answerLength}
 use Rattle.layout.specs.Types.{typeNumber, rootLength}
 use Rattle.layout.specs.Messages.{NonceRequest, NonceResponse, SignatureShareRequest, SignatureShareResponse}
 use Rattle.layout.specs.Messages.{Message, nonceRequest, signatureShareRequest}
-use Rattle.layout.specs.Encode.{encode, encodeNonceTimeout, encodeInsufficientSigners}
+use Rattle.layout.specs.Encode.{encode, encodeNonceTimeout, encodeInsufficientSigners, encodeArrivals}
 use Rattle.layout.specs.Decode.{Decoded, taken, refused, decode, responseWithin}
 use Rattle.layout.proofs.Limits.{root-length}
 use Rattle.layout.proofs.Lengths.{ResponseLimited, ResponsesLimited, SharesLimited, nonce-request-length, share-request-length, job-length}
-use Rattle.layout.proofs.Lengths.{nonce-timeout-length, insufficient-signers-length}
+use Rattle.layout.proofs.Lengths.{nonce-timeout-length, insufficient-signers-length, arrivals-length}
 use Rattle.layout.proofs.RoundTrip.{decode-fits}
 use Rattle.step_definition.specs.Lists.{given}
 use Rattle.step_definition.specs.Ids.{insertAll}
 use Rattle.step_definition.specs.Coordinator.{Coordinator, Held, uncommissioned, miscounted, commissioned}
-use Rattle.step_definition.specs.Coordinator.{SignerShares, currentRecord, waitersOf, addResponse, sharerId}
+use Rattle.step_definition.specs.Coordinator.{SignRoundInfo, SignerShares, recordOf, currentRecord, arrivalsOf, waitersOf}
+use Rattle.step_definition.specs.Coordinator.{addResponse, sharerId}
 use Rattle.step_definition.specs.Counts.{withinLimits, CoordinatorFits, BroughtFits}
 use Rattle.step_definition.specs.Calls.{Start, Entry, process, processMessage, Request, commission, other, Call, brings, brought}
 use Rattle.step_definition.specs.Calls.{Operation, setKey, takeResults, canMove, startSigning, receive}
-use Rattle.step_definition.specs.Calls.{processTimeout, aggregated, reset}
+use Rattle.step_definition.specs.Calls.{processTimeout, aggregated, reset, tellArrivals}
 use Rattle.step_definition.specs.Calls.{Class, Answer, Event, Outcome, outcome, sending, quiet}
 use Rattle.step_definition.specs.Effects.{rootFor, recording, freeing}
 use Rattle.step_definition.specs.Phases.{Phase, idling, gatheringNonces, gatheringShares, resting, phaseOf}
@@ -42,13 +43,14 @@ use Rattle.step_definition.specs.NonceGather.{RecordVerdict, tooFew, noG
 use Rattle.step_definition.specs.SigShareGather.{ShareVerdict, unawaited, wrongId as wrongShareId, refused as refusedShares}
 use Rattle.step_definition.specs.SigShareGather.{unended, good, shareVerdict, onShares}
 use Rattle.step_definition.specs.SigShareGather.{TakeVerdict, alreadyHeld, others, last, takeVerdict, onTake}
-use Rattle.step_definition.specs.Step.{messageIn, onMessage, onEntry, onPacket, onAggregated, onResults, own}
+use Rattle.step_definition.specs.Step.{messageIn, onMessage, onEntry, onPacket, onAggregated, onResults, onArrivals, own}
 use Rattle.step_definition.specs.Step.{onCommission, onHeld, stepOf, step}
 use Rattle.step_definition.proofs.Cases.{cond-case, given-both}
 use Rattle.step_definition.proofs.Lists.{all-insert}
 use Rattle.step_definition.proofs.Verdicts.{TimeoutCase, onTime, noncesLate, sharesLate, timeout-case}
-use Rattle.step_definition.proofs.Limited.{Responses, Sent, Limited, limited, ContentLimited, content-limited, length-insertAll}
-use Rattle.step_definition.proofs.Limited.{responses-found, waiters-found, responses-added, responses-kept}
+use Rattle.step_definition.proofs.Limited.{Responses, Arrivals, Sent, Limited, limited, ContentLimited, content-limited}
+use Rattle.step_definition.proofs.Limited.{length-insertAll}
+use Rattle.step_definition.proofs.Limited.{responses-found, arrivals-found, waiters-found, responses-added, responses-kept}
 use Rattle.step_definition.proofs.Limited.{keys-joined, nonces-joined, shares-joined}
 
 -- an outcome whose answer fits
@@ -81,6 +83,10 @@ module _ {k : Class} {es : List Event} {h : Held} where
   too-few-signers waiters malicious w m =
       let all = insertAll waiters malicious in
       record { fits = omega (arith, insufficient-signers-length all, length-insertAll waiters malicious) }
+
+  arrivals-fit :
+      (m : List ℕ) (rs : List SignRoundInfo) → All Arrivals rs → Small (outcome (sending k (encodeArrivals (arrivalsOf (recordOf m rs)))) es h)
+  arrivals-fit m rs a = record { fits = omega (arith, arrivals-length (arrivalsOf (recordOf m rs)), arrivals-found m rs a) }
 
 wordless : {a : Answer} {es : List Event} {h : Held} → a .bytes ≡ [] → Small (outcome a es h)
 wordless e = record { fits = rw e (omega arith) }
@@ -144,15 +150,15 @@ module _ (now : ℕ) (c : Coordinator) (l : Limited c) where
 
   on-record :
       (t : SignatureType) (q : NonceResponse) (v : RecordVerdict)
-      → ResponseLimited q → Small (onRecord now t (c .position .root) q (recording q c) v)
+      → ResponseLimited q → Small (onRecord now t (c .position .root) q (recording now q c) v)
   unfolding onRecord responseWithin
   on-record t q tooFew h = search small
   on-record t q noGroupKey h = search small
   on-record t q suffices h =
       let w = h .within in
       let m : length (q .message) ≤ messageLimit = leb-true _ _ (search (and-left, and-right)) in
-      let rs = responses-added q (c .round .message-nonces) h (l .responses) in
-      let qs = responses-found (q .message) (addResponse q (c .round .message-nonces)) rs in
+      let rs = responses-added now q (c .round .message-nonces) h (l .responses) in
+      let qs = responses-found (q .message) (addResponse now q (c .round .message-nonces)) rs in
       search small
 
   on-nonces :
@@ -161,7 +167,7 @@ module _ (now : ℕ) (c : Coordinator) (l : Limited c) where
   on-nonces t q (wrongId n got expected) h = search small
   on-nonces t q ignored h = search small
   on-nonces t q noRoom h = search small
-  on-nonces t q records h = on-record t q (recordVerdict q (recording q c)) h
+  on-nonces t q records h = on-record t q (recordVerdict q (recording now q c)) h
 
   on-shares :
       (t : SignatureType) (r : SignatureShareResponse) (v : ShareVerdict)
@@ -212,7 +218,7 @@ module _ (k : Call) (c : Coordinator) (l : Limited c) where
   on-packet entry bytes (refused n) b e = search small
 
   owns : (o : Operation) → BroughtFits (brings o) → Small (own k o c)
-  unfolding own onResults onAggregated
+  unfolding own onResults onAggregated onArrivals
   owns (setKey which held) b = search small
   owns (takeResults dkg ended) b = search small
   owns (canMove p) b = search small
@@ -221,6 +227,7 @@ module _ (k : Call) (c : Coordinator) (l : Limited c) where
   owns processTimeout b = unless-late (k .clock) c l _ (timeout-case (k .clock) c (phaseOf (c .position .state))) (quietly c)
   owns (aggregated ok) b = search small
   owns reset b = search small
+  owns tellArrivals b = arrivals-fit (c .round .message) (c .round .message-nonces) (l .arrivals)
 
 -- a coordinator within the limits, or none
 abbrev pub Within : Held → Type 0

@@ -153,18 +153,18 @@ entries-for m (r ∷ rs) =
     (λ e. rw e)
     (λ e. rw e (entries-for m rs))
 
-pub entered-record : (q : NonceResponse) (rs : List SignRoundInfo) → enter q (pagesOf rs) ≡ pagesOf (addResponse q rs)
+pub entered-record : (now : ℕ) (q : NonceResponse) (rs : List SignRoundInfo) → enter q (pagesOf rs) ≡ pagesOf (addResponse now q rs)
 unfolding change
-entered-record q [] = refl
-entered-record q (r ∷ rs) =
-    cond-image pagesOf (sameBytes (q .message) (r .message)) refl (ap (λ (ps : List Page). pageOf r ∷ ps) (entered-record q rs))
+entered-record now q [] = refl
+entered-record now q (r ∷ rs) =
+    cond-image pagesOf (sameBytes (q .message) (r .message)) refl (ap (λ (ps : List Page). pageOf r ∷ ps) (entered-record now q rs))
 
 -- once q is entered, the keys of its message's entries are as many by either count
 pub keys-entered :
-    (o : Opened) (q : NonceResponse) (rs : List SignRoundInfo) → Signed o q → GoodPages o (pagesOf rs)
-    → differentKeys (responsesOf (recordOf (q .message) (addResponse q rs))) ≡ length (recvKeyIds (o .standing .config) (responsesOf (recordOf (q .message) (addResponse q rs))))
+    (o : Opened) (now : ℕ) (q : NonceResponse) (rs : List SignRoundInfo) → Signed o q → GoodPages o (pagesOf rs)
+    → differentKeys (responsesOf (recordOf (q .message) (addResponse now q rs))) ≡ length (recvKeyIds (o .standing .config) (responsesOf (recordOf (q .message) (addResponse now q rs))))
 unfolding differentKeys
-keys-entered o q rs g a =
-    let ps : GoodPages o (pagesOf (addResponse q rs)) = rw entered-record at (enter-good o q (pagesOf rs) g a) in
-    let qs : All (Signed o) (responsesOf (recordOf (q .message) (addResponse q rs))) = rw entries-for at (entries-good o (q .message) (pagesOf (addResponse q rs)) ps .entries) in
+keys-entered o now q rs g a =
+    let ps : GoodPages o (pagesOf (addResponse now q rs)) = rw (entered-record now) at (enter-good o q (pagesOf rs) g a) in
+    let qs : All (Signed o) (responsesOf (recordOf (q .message) (addResponse now q rs))) = rw entries-for at (entries-good o (q .message) (pagesOf (addResponse now q rs)) ps .entries) in
     ap length (sym (received-keys o _ qs))

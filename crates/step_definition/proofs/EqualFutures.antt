@@ -12,7 +12,8 @@ use Rattle.layout.specs.Decode.{Decoded, taken, refused, decode}
 use Rattle.step_definition.specs.Lists.{given}
 use Rattle.step_definition.specs.Coordinator.{Coordinator, SignerShares, Held, commissioned, withShares, withClocks}
 use Rattle.step_definition.specs.Calls.{Start, Entry, process, processMessage, Request, commission, other, Call}
-use Rattle.step_definition.specs.Calls.{Operation, setKey, takeResults, canMove, startSigning, receive, processTimeout, aggregated, reset}
+use Rattle.step_definition.specs.Calls.{Operation, setKey, takeResults, canMove, startSigning, receive, processTimeout, aggregated}
+use Rattle.step_definition.specs.Calls.{reset, tellArrivals}
 use Rattle.step_definition.specs.Calls.{Answer, Event, Outcome, outcome}
 use Rattle.step_definition.specs.Demand3.{Opens, SameFour}
 use Rattle.step_definition.specs.Effects.{recording}
@@ -23,7 +24,8 @@ use Rattle.step_definition.specs.Run.{Seen, maliciousIn, run}
 use Rattle.step_definition.specs.Starts.{startRound, idleRequest, idle}
 use Rattle.step_definition.specs.Timeouts.{nonceTimeout, timeoutIn}
 use Rattle.step_definition.specs.NonceGather.{NonceVerdict, wrongId, ignored, noRoom, records, nonceVerdict, RecordVerdict, tooFew, noGroupKey, suffices, recordVerdict, onRecord, onNonces}
-use Rattle.step_definition.specs.Step.{messageIn, onMessage, onEntry, onPacket, onAggregated, onResults, own, onHeld, stepOf}
+use Rattle.step_definition.specs.Step.{messageIn, onMessage, onEntry, onPacket, onAggregated, onResults, onArrivals, own, onHeld}
+use Rattle.step_definition.specs.Step.{stepOf}
 use Rattle.step_definition.proofs.Leaves.{Fresh, opening}
 
 -- what a host sees of an outcome and of the calls after it
@@ -106,7 +108,7 @@ module _ (ss : List SignerShares) (start : Option ℕ) (ks : List Call)
 
   records-alike :
       (now : ℕ) (t : SignatureType) (q : NonceResponse) (v : RecordVerdict) (c : Coordinator) → Unread c
-      → Both c (λ (c : Coordinator). onRecord now t (c .position .root) q (recording q c) v)
+      → Both c (λ (c : Coordinator). onRecord now t (c .position .root) q (recording now q c) v)
   unfolding onRecord
   records-alike now t q tooFew c u = kept u
   records-alike now t q noGroupKey c u = kept u
@@ -119,7 +121,7 @@ module _ (ss : List SignerShares) (start : Option ℕ) (ks : List Call)
   gathers now t q (wrongId n got expected) c u = kept u
   gathers now t q ignored c u = kept u
   gathers now t q noRoom c u = kept u
-  gathers now t q records c u = records-alike now t q (recordVerdict q (recording q c)) c u
+  gathers now t q records c u = records-alike now t q (recordVerdict q (recording now q c)) c u
 
   heard :
       {A : Type 0} (o : Option A) {f f′ : A → Outcome} {b b′ : Outcome} → ((a : A) → Alike ks (f a) (f′ a)) → Alike ks b b′
@@ -149,7 +151,7 @@ module _ (ss : List SignerShares) (start : Option ℕ) (ks : List Call)
     on-packet entry (refused n) = kept u
 
     owns : (o : Operation) → Both c (own k o)
-    unfolding own onResults onAggregated question24 question25
+    unfolding own onResults onAggregated onArrivals question24 question25
     owns (setKey which held) = kept u
     owns (takeResults dkg ended) = search (alike, kept)
     owns (canMove p) = kept u
@@ -158,6 +160,7 @@ module _ (ss : List SignerShares) (start : Option ℕ) (ks : List Call)
     owns processTimeout = unless-late (k .clock) (phaseOf (c .position .state)) c _ _ u u (kept u)
     owns (aggregated ok) = search (alike, kept)
     owns reset = equal
+    owns tellArrivals = kept u
 
   on-held :
       (k : Call) (o : Operation) (c : Coordinator) → Unread c

@@ -17,7 +17,8 @@ use Rattle.step_definition.specs.Lists.{given, first}
 use Rattle.step_definition.specs.Configuration.{configured}
 use Rattle.step_definition.specs.Coordinator.{Coordinator, Standing, SignRoundInfo, SignerShares, Keys, Held, commissioned, responded}
 use Rattle.step_definition.specs.Calls.{Entry, process, processMessage, coordinatorKey, aggregateKey, Request, commission, other, Call, Brought, brings, brought, failing, quiet}
-use Rattle.step_definition.specs.Calls.{Operation, setKey, takeResults, canMove, startSigning, receive, processTimeout, aggregated, reset}
+use Rattle.step_definition.specs.Calls.{Operation, setKey, takeResults, canMove, startSigning, receive, processTimeout, aggregated}
+use Rattle.step_definition.specs.Calls.{reset, tellArrivals}
 use Rattle.step_definition.specs.Calls.{Answer, Event, shareRequestIn, Outcome, outcome}
 use Rattle.step_definition.specs.Demand3.{Opens, openedBy, plainOperation, plainRequest, groupKeyIn, Plain, firstShareRequest}
 use Rattle.step_definition.specs.Effects.{recording, recvKeyIds}
@@ -28,7 +29,7 @@ use Rattle.step_definition.specs.ResponseLog.{Opened, ResponseLog, entri
 use Rattle.step_definition.specs.Run.{final}
 use Rattle.step_definition.specs.Timeouts.{nonceTimeout, timeout, timeoutIn}
 use Rattle.step_definition.specs.NonceGather.{NonceVerdict, wrongId, ignored, noRoom, records, nonceVerdict, RecordVerdict, tooFew, noGroupKey, suffices, recordVerdict, onRecord, onNonces}
-use Rattle.step_definition.specs.Step.{messageIn, onMessage, onEntry, onPacket, onResults, own, onHeld, stepOf}
+use Rattle.step_definition.specs.Step.{messageIn, onMessage, onEntry, onPacket, onResults, onArrivals, own, onHeld, stepOf}
 use Rattle.step_definition.proofs.Cases.{cond-case, cond-both, given-both}
 use Rattle.step_definition.proofs.Entries.{Signed, signed, GoodPages, logged-good, pagesOf, has-page, entries-for, entered-record, keys-entered}
 use Rattle.step_definition.proofs.Gathering.{GatheringCoordinator, gathering, fromBefore, freshly-gathers}
@@ -166,7 +167,7 @@ module _ (o : Opened) (ss : List SignerShares) (start : Option ℕ) where
 
       module _ (held : keys .aggregate-public-key ≡ true) (good : GoodPages o (pagesOf rs)) (k : Call) where
         abbrev recorded : RecordVerdict → Outcome
-        recorded v = onRecord (k .clock) (o .request .signature-type) (o .request .root) q (recording q gathered) v
+        recorded v = onRecord (k .clock) (o .request .signature-type) (o .request .root) q (recording (k .clock) q gathered) v
 
         -- sent where the keys suffice, the group key being held
         chosen :
@@ -177,11 +178,11 @@ module _ (o : Opened) (ss : List SignerShares) (start : Option ℕ) where
         chosen false u e p q = q
 
         -- a response that passed is recorded and entered, and sent where the keys suffice
-        recorded-on : Signed o q → Ends q (recorded (recordVerdict q (recording q gathered))) true
+        recorded-on : Signed o q → Ends q (recorded (recordVerdict q (recording (k .clock) q gathered))) true
         unfolding recordVerdict onRecord completes shareRequestFor question10 first
         recorded-on g =
             record
-            { followed = rw (entered-record, entries-for, keys-entered o q rs g good) (chosen (leb (o .standing .config .sign-threshold) (length (recvKeyIds _ _))) (keys .aggregate-public-key) held (sends refl) (gathers refl)) }
+            { followed = rw (entered-record (k .clock), entries-for, keys-entered o (k .clock) q rs g good) (chosen (leb (o .standing .config .sign-threshold) (length (recvKeyIds _ _))) (keys .aggregate-public-key) held (sends refl) (gathers refl)) }
 
         abbrev decided : NonceVerdict → Outcome
         decided v = onNonces (k .clock) (o .request .signature-type) (o .request .root) q gathered v
@@ -289,7 +290,7 @@ module _ (o : Opened) (ss : List SignerShares) (start : Option ℕ) where
             (record { keys = keysAfter k b keys; pages = entered (entryOf o log k b) (pagesOf rs) })
 
         follows : (p : Operation) → plainOperation p ≡ true → Logging (brings p) (onHeld k p (commissioned gathered))
-        unfolding onHeld own before asks question4 question5 question6 question7 plainOperation entryOf keysAfter completes onResults question24
+        unfolding onHeld own before asks question4 question5 question6 question7 plainOperation entryOf keysAfter completes onResults onArrivals question24
         follows (setKey coordinatorKey new) e = sets (leb storeLength (k .store)) _
         follows (setKey aggregateKey new) e = sets (leb storeLength (k .store)) _
         follows (takeResults dkg ended) e = unless-own (takeResults dkg ended) still
@@ -299,6 +300,7 @@ module _ (o : Opened) (ss : List SignerShares) (start : Option ℕ) where
         follows processTimeout e = unless-own processTimeout (late-or still)
         follows (aggregated ok) e = jobless (leb storeLength (k .store)) _
         follows reset e = absurd (false≢true e)
+        follows tellArrivals e = unless-own tellArrivals still
 
         follows-request : (r : Request) → plainRequest r ≡ true → Logging (brought r) (stepOf k r (commissioned gathered))
         unfolding stepOf plainRequest

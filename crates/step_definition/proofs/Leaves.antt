@@ -10,14 +10,15 @@ use lib.ListN.{getD}
 use Rattle.wire.specs.Bytes.{le}
 use Rattle.layout.specs.declared.SignatureType.{SignatureType}
 use Rattle.layout.specs.Messages.{NonceRequest, NonceResponse, SignatureShareRequest, SignatureShareResponse, Message, nonceRequest, signatureShareRequest}
-use Rattle.layout.specs.Encode.{headerBytes, packet, encode, encodeJob, encodeNonceTimeout, encodeInsufficientSigners}
+use Rattle.layout.specs.Encode.{headerBytes, packet, encode, encodeJob, encodeNonceTimeout, encodeInsufficientSigners, encodeArrivals}
 use Rattle.layout.specs.Decode.{Decoded, taken, refused, decode}
 use Rattle.state_table.specs.declared.State.the-variants.{NonceGather}
 use Rattle.state_table.specs.States.{position}
 use Rattle.step_definition.specs.Lists.{given, first}
 use Rattle.step_definition.specs.Coordinator.{Coordinator, Held, uncommissioned, miscounted, commissioned}
 use Rattle.step_definition.specs.Calls.{Start, Entry, process, processMessage, Request, commission, other, Call, failing, quiet}
-use Rattle.step_definition.specs.Calls.{Operation, setKey, takeResults, canMove, startSigning, receive, processTimeout, aggregated, reset}
+use Rattle.step_definition.specs.Calls.{Operation, setKey, takeResults, canMove, startSigning, receive, processTimeout, aggregated}
+use Rattle.step_definition.specs.Calls.{reset, tellArrivals}
 use Rattle.step_definition.specs.Calls.{packet as packetClass, Answer, Event, recorded, shareRequested, nonceRequestIn, shareRequestIn, Outcome, outcome, sending}
 use Rattle.step_definition.specs.Demand3.{Opens}
 use Rattle.step_definition.specs.Effects.{recording, freeing}
@@ -29,7 +30,8 @@ use Rattle.step_definition.specs.Timeouts.{nonceTimeout, shareTimeout}
 use Rattle.step_definition.specs.NonceGather.{NonceVerdict, wrongId, ignored, noRoom, records, nonceVerdict, RecordVerdict, tooFew, noGroupKey, suffices, recordVerdict, onRecord, onNonces}
 use Rattle.step_definition.specs.SigShareGather.{ShareVerdict, unawaited, wrongId as wrongShareId, refused as refusedShares, unended, good, shareVerdict}
 use Rattle.step_definition.specs.SigShareGather.{TakeVerdict, alreadyHeld, others, last, takeVerdict, onTake, onShares}
-use Rattle.step_definition.specs.Step.{messageIn, onMessage, onEntry, onPacket, onAggregated, onResults, own, onCommission, onHeld, stepOf, step}
+use Rattle.step_definition.specs.Step.{messageIn, onMessage, onEntry, onPacket, onAggregated, onResults, onArrivals, own}
+use Rattle.step_definition.specs.Step.{onCommission, onHeld, stepOf, step}
 use Rattle.step_definition.proofs.Cases.{cond-case, given-both}
 use Rattle.step_definition.proofs.Verdicts.{Before, gets4, gets5, gets6, gets7, goesOn, before-case, TimeoutCase, onTime, noncesLate, sharesLate, timeout-case}
 
@@ -83,6 +85,11 @@ module _ (now : ℕ) where
   idles (aDkgBegin dkg) c j = search leaves
   idles unheard c j = quietly c
 
+  -- the query of arrivals
+  arrivals-told : (c : Coordinator) → Leaf now (onArrivals c)
+  unfolding onArrivals encodeArrivals packet headerBytes le first
+  arrivals-told c = search leaves
+
   -- timeouts
   nonces-late : (c : Coordinator) → Leaf now (nonceTimeout c)
   unfolding nonceTimeout encodeNonceTimeout packet headerBytes le first
@@ -113,7 +120,7 @@ module _ (now : ℕ) where
   on-nonces t root q c (wrongId n got expected) = search leaves
   on-nonces t root q c ignored = search leaves
   on-nonces t root q c noRoom = search leaves
-  on-nonces t root q c records = on-record t root q (recording q c) (recordVerdict q (recording q c))
+  on-nonces t root q c records = on-record t root q (recording now q c) (recordVerdict q (recording now q c))
 
   on-take :
       (t : SignatureType) (root : List ℕ) (r : SignatureShareResponse) (c : Coordinator) (v : TakeVerdict)
@@ -170,6 +177,7 @@ module _ (k : Call) (c : Coordinator) where
       unless-late (k .clock) c _ (j refl) (timeout-case (k .clock) c (phaseOf (c .position .state))) (quietly (k .clock) c)
   owns (aggregated ok) j = search leaves
   owns reset j = search leaves
+  owns tellArrivals j = arrivals-told (k .clock) c
 
   -- 4 to 7 first
   asked : (o : Operation) {n : Option ℕ} → Before o c n → Leaf (k .clock) (given n (λ (n : ℕ). failing n [] c) (own k o c))

@@ -12,6 +12,7 @@ pub mod Outcomes
 pub mod Refusals
 pub mod Malicious
 pub mod Waiters
+pub mod Arrivals
 pub mod Watching
 pub mod WatchedStates
 pub mod WatchedCalls

@@ -22,7 +22,8 @@ use Rattle.state_table.specs.declared.StateType.the-variants.{Untyped, Typed}
 use Rattle.state_table.specs.States.{typeIn}
 use Rattle.step_definition.specs.Lists.{given}
 use Rattle.step_definition.specs.Ids.{insertAll}
-use Rattle.step_definition.specs.Coordinator.{Coordinator, SignRoundInfo, SignerShares, isFor, recordOf, responsesOf, waitersOf}
+use Rattle.step_definition.specs.Coordinator.{Coordinator, SignRoundInfo, SignerShares, isFor, recordOf, responsesOf, arrivalsOf}
+use Rattle.step_definition.specs.Coordinator.{waitersOf}
 use Rattle.step_definition.specs.Coordinator.{responderId, addResponse, removeWaiter, sharesBy}
 use Rattle.step_definition.specs.Counts.{recordWithin, sharesWithin, withinLimits, rootSize, CoordinatorFits}
 use Rattle.step_definition.specs.Effects.{joinedKeys, joinedNonces, joinedShares}
@@ -41,6 +42,9 @@ Responses n r = ResponsesLimited n (r .public-nonces)
 abbrev pub Waiters : SignRoundInfo → Type 0
 Waiters r = length (r .sign-wait-signer-ids) ≤ signerLimit
 
+abbrev pub Arrivals : SignRoundInfo → Type 0
+Arrivals r = length (r .arrivals) ≤ signerLimit
+
 abbrev pub Sent : SignerShares → Type 0
 Sent s = SharesLimited 1 (s .signature-shares)
 
@@ -50,6 +54,7 @@ pub record Limited (c : Coordinator) : Type 0 where
   pub malicious : length (c .standing .malicious-signer-ids) ≤ signerLimit
   pub responses : All (Responses signerLimit) (c .round .message-nonces)
   pub waiters : All Waiters (c .round .message-nonces)
+  pub arrivals : All Arrivals (c .round .message-nonces)
   pub shares : All Sent (c .round .signature-shares)
 
 root-32 : (t : StateType) → rootSize t ≤ 32
@@ -69,6 +74,10 @@ responses-limited r h =
       count = leb-true _ _ (search (and-left, and-right));
       each = all-imp qs response-limited (all-both ResponseFits _ qs (h .0) ws);
     }
+
+arrivals-limited : (r : SignRoundInfo) → recordWithin r ≡ true → Arrivals r
+unfolding recordWithin
+arrivals-limited r w = leb-true _ _ (search (and-left, and-right))
 
 waiters-limited : (r : SignRoundInfo) → recordWithin r ≡ true → Waiters r
 unfolding recordWithin
@@ -100,6 +109,7 @@ limited c w f =
       malicious = leb-true _ _ (search (and-left, and-right));
       responses = all-imp rs responses-limited (all-both _ _ rs (f .responses) recorded);
       waiters = all-imp rs waiters-limited recorded;
+      arrivals = all-imp rs arrivals-limited recorded;
       shares = all-imp ss sent-limited (all-both _ _ ss (f .shares) sent);
     }
 
@@ -130,11 +140,14 @@ responses-found {n} m rs a =
 pub waiters-found : (m : List ℕ) (rs : List SignRoundInfo) → All Waiters rs → length (waitersOf (recordOf m rs)) ≤ signerLimit
 waiters-found m rs a = found Waiters (λ ids. length ids ≤ signerLimit) (isFor m) rs (λ r h. h) (omega arith) a
 
+pub arrivals-found : (m : List ℕ) (rs : List SignRoundInfo) → All Arrivals rs → length (arrivalsOf (recordOf m rs)) ≤ signerLimit
+arrivals-found m rs a = found Arrivals (λ arrivals. length arrivals ≤ signerLimit) (isFor m) rs (λ r h. h) (omega arith) a
+
 -- a response recorded: 11 at most. A waiter taken off: the responses stay
 pub responses-added :
-    (q : NonceResponse) (rs : List SignRoundInfo)
-    → ResponseLimited q → All (Responses signerLimit) rs → All (Responses 11) (addResponse q rs)
-responses-added q rs l a =
+    (now : ℕ) (q : NonceResponse) (rs : List SignRoundInfo)
+    → ResponseLimited q → All (Responses signerLimit) rs → All (Responses 11) (addResponse now q rs)
+responses-added now q rs l a =
     changed (Responses signerLimit) (Responses 11) _ _ _ rs
     (λ r h. record { count = omega arith; each = h .each })
     (λ r h. record {

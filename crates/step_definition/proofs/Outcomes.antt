@@ -17,7 +17,8 @@ use Rattle.step_definition.specs.Lists.{given, first}
 use Rattle.step_definition.specs.Ids.{insertAll}
 use Rattle.step_definition.specs.Coordinator.{Coordinator, Held, uncommissioned, miscounted, commissioned, waitersOf, currentRecord}
 use Rattle.step_definition.specs.Calls.{Start, Entry, process, processMessage, Request, commission, other, Call}
-use Rattle.step_definition.specs.Calls.{Operation, setKey, takeResults, canMove, startSigning, receive, processTimeout, aggregated, reset}
+use Rattle.step_definition.specs.Calls.{Operation, setKey, takeResults, canMove, startSigning, receive, processTimeout, aggregated}
+use Rattle.step_definition.specs.Calls.{reset, tellArrivals}
 use Rattle.step_definition.specs.Calls.{Class, error, Answer, Event, newlyMalicious, newlyMaliciousIn, Outcome, outcome, refusing, quiet}
 use Rattle.step_definition.specs.Effects.{rootFor, recording, freeing}
 use Rattle.step_definition.specs.Phases.{Phase, idling, gatheringNonces, gatheringShares, resting, phaseOf}
@@ -30,7 +31,8 @@ use Rattle.step_definition.specs.Starts.{naming, startRound, idleRequest
 use Rattle.step_definition.specs.Timeouts.{nonceTimeout, shareTimeout}
 use Rattle.step_definition.specs.NonceGather.{NonceVerdict, RecordVerdict, tooFew, noGroupKey, suffices, recordVerdict, onRecord, onNonces}
 use Rattle.step_definition.specs.SigShareGather.{ShareVerdict, TakeVerdict, alreadyHeld, others, last, takeVerdict, onTake, onShares}
-use Rattle.step_definition.specs.Step.{messageIn, onMessage, onEntry, onPacket, onAggregated, onResults, own, onCommission, onHeld, stepOf, step}
+use Rattle.step_definition.specs.Step.{messageIn, onMessage, onEntry, onPacket, onAggregated, onResults, onArrivals, own}
+use Rattle.step_definition.specs.Step.{onCommission, onHeld, stepOf, step}
 use Rattle.step_definition.proofs.Cases.{cond-case}
 use Rattle.step_definition.proofs.Phases.{in-idle, in-shares}
 use Rattle.step_definition.proofs.Verdicts.{Before, gets4, gets5, gets6, gets7, goesOn, before-case, TimeoutCase, onTime, noncesLate, sharesLate, timeout-case}
@@ -119,7 +121,7 @@ idle-moves c t root e q = absurd (false≢true (sym (rw e at q)))
 -- A message, by what is heard of it.
 module _ (now : ℕ) (c : Coordinator) where
   abbrev MessageTold : Content → Outcome → Type 0
-  MessageTold m = Told now (λ (n : ℕ). commissioned (changedBy n m c)) (commissioned c)
+  MessageTold m = Told now (λ (n : ℕ). commissioned (changedBy now n m c)) (commissioned c)
 
   quietly : (m : Content) → MessageTold m (quiet c)
   unfolding maliciousIn first
@@ -134,7 +136,7 @@ module _ (now : ℕ) (c : Coordinator) where
   at-idle unheard e = quietly unheard
 
   module _ (t : SignatureType) (root : List ℕ) where
-    records-told : (q : NonceResponse) (v : RecordVerdict) → MessageTold (aNonceResponse q) (onRecord now t root q (recording q c) v)
+    records-told : (q : NonceResponse) (v : RecordVerdict) → MessageTold (aNonceResponse q) (onRecord now t root q (recording now q c) v)
     unfolding onRecord changedBy maliciousIn first
     records-told q tooFew = search told
     records-told q noGroupKey = search told
@@ -183,9 +185,9 @@ module _ (now : ℕ) (c : Coordinator) where
   by-phase resting m e = quietly m
 
 -- A number other than 10, 11, 20 to 22 and 23 changes nothing, whatever the call
-module _ (c : Coordinator) (n : ℕ) (n10 : eqb n 10 ≡ false) (n11 : eqb n 11 ≡ false)
+module _ (now : ℕ) (c : Coordinator) (n : ℕ) (n10 : eqb n 10 ≡ false) (n11 : eqb n 11 ≡ false)
     (n20 : (eqb n 20 || eqb n 21 || eqb n 22) ≡ false) (n23 : eqb n 23 ≡ false) where
-  bare-message : (m : Content) → commissioned c ≡ commissioned (changedBy n m c)
+  bare-message : (m : Content) → commissioned c ≡ commissioned (changedBy now n m c)
   unfolding changedBy
   bare-message (aNonceRequest r) = rw n10
   bare-message (aNonceResponse q) = rw n10
@@ -193,12 +195,12 @@ module _ (c : Coordinator) (n : ℕ) (n10 : eqb n 10 ≡ false) (n11 : eqb n 11 
   bare-message (aDkgBegin dkg) = refl
   bare-message unheard = refl
 
-  bare-packet : (d : Decoded) → commissioned c ≡ commissioned (changedByPacket n d c)
+  bare-packet : (d : Decoded) → commissioned c ≡ commissioned (changedByPacket now n d c)
   unfolding changedByPacket
   bare-packet (taken m) = bare-message (contentOf m)
   bare-packet (refused k) = refl
 
-  bare : (o : Operation) → commissioned c ≡ commissioned (changedIn n o c)
+  bare : (o : Operation) → commissioned c ≡ commissioned (changedIn now n o c)
   unfolding changedIn
   bare (setKey which held) = refl
   bare (takeResults dkg ended) = refl
@@ -208,6 +210,7 @@ module _ (c : Coordinator) (n : ℕ) (n10 : eqb n 10 ≡ false) (n11 : eqb n 11 
   bare processTimeout = refl
   bare (aggregated ok) = rw n23
   bare reset = refl
+  bare tellArrivals = refl
 
 -- What a call does once 4 to 7 are yes.
 module _ (k : Call) (c : Coordinator) where
@@ -217,19 +220,19 @@ module _ (k : Call) (c : Coordinator) where
 
   on-entry : (entry : Entry) (m : Message) → MessageTold (k .clock) c (contentOf m) (onEntry entry (k .clock) (k .verdict) m c)
   on-entry process m =
-      unless-late (k .clock) _ c (bare-message c 12 refl refl refl refl (contentOf m)) _ refl
+      unless-late (k .clock) _ c (bare-message (k .clock) c 12 refl refl refl refl (contentOf m)) _ refl
       (timeout-case (k .clock) c (phaseOf (c .position .state))) (on-message m)
   on-entry processMessage m = on-message m
 
   on-packet :
       (entry : Entry) (d : Decoded)
-      → Told (k .clock) (λ (n : ℕ). commissioned (changedByPacket n d c)) (commissioned c) (onPacket entry (k .clock) (k .verdict) d c)
+      → Told (k .clock) (λ (n : ℕ). commissioned (changedByPacket (k .clock) n d c)) (commissioned c) (onPacket entry (k .clock) (k .verdict) d c)
   unfolding onPacket changedByPacket maliciousIn first
   on-packet entry (taken m) = on-entry entry m
   on-packet entry (refused n) = search told
 
-  own-told : (o : Operation) → Told (k .clock) (λ (n : ℕ). commissioned (changedIn n o c)) (commissioned c) (own k o c)
-  unfolding own changedIn onResults onAggregated maliciousIn first
+  own-told : (o : Operation) → Told (k .clock) (λ (n : ℕ). commissioned (changedIn (k .clock) n o c)) (commissioned c) (own k o c)
+  unfolding own changedIn onResults onAggregated onArrivals maliciousIn first
   own-told (setKey which held) = search told
   own-told (takeResults dkg ended) = search told
   own-told (canMove p) = search told
@@ -238,11 +241,12 @@ module _ (k : Call) (c : Coordinator) where
   own-told processTimeout = unless-late (k .clock) _ c refl _ refl (timeout-case (k .clock) c (phaseOf (c .position .state))) (search told)
   own-told (aggregated ok) = search told
   own-told reset = search told
+  own-told tellArrivals = search told
 
   -- 4 to 7 first
   after-questions :
       (o : Operation) {n : Option ℕ} → Before o c n
-      → Told (k .clock) (λ (n : ℕ). commissioned (changedIn n o c)) (commissioned c) (given n (λ (n : ℕ). outcome (refusing error n []) [] (commissioned c)) (own k o c))
+      → Told (k .clock) (λ (n : ℕ). commissioned (changedIn (k .clock) n o c)) (commissioned c) (given n (λ (n : ℕ). outcome (refusing error n []) [] (commissioned c)) (own k o c))
   unfolding maliciousIn first
   after-questions o gets4 = search (told, bare)
   after-questions o gets5 = search (told, bare)
@@ -251,7 +255,7 @@ module _ (k : Call) (c : Coordinator) where
   after-questions o (goesOn f g) = own-told o
 
 -- A call of what is held. Commissioning does what it does to the uncommissioned.
-on-held : (k : Call) (o : Operation) (h : Held) → Told (k .clock) (λ (n : ℕ). heldAfter n o h) h (onHeld k o h)
+on-held : (k : Call) (o : Operation) (h : Held) → Told (k .clock) (λ (n : ℕ). heldAfter (k .clock) n o h) h (onHeld k o h)
 unfolding onHeld heldAfter maliciousIn first
 on-held k o uncommissioned = search told
 on-held k o miscounted = search told
@@ -259,12 +263,12 @@ on-held k o (commissioned c) = after-questions k c o (before-case k o c)
 
 of-request :
     (k : Call) (h : Held) (r : Request)
-    → Told (k .clock) (λ (n : ℕ). afterRefusal n r h) (cond (isCommission r) uncommissioned h) (stepOf k r h)
+    → Told (k .clock) (λ (n : ℕ). afterRefusal (k .clock) n r h) (cond (isCommission r) uncommissioned h) (stepOf k r h)
 unfolding stepOf onCommission afterRefusal maliciousIn first
 of-request k h (commission g) = search told
 of-request k h (other o) = on-held k o h
 
 pub step-told :
     (k : Call) (h : Held)
-    → Told (k .clock) (λ (n : ℕ). afterRefusal n (k .request) h) (cond (isCommission (k .request)) uncommissioned h) (step k h)
+    → Told (k .clock) (λ (n : ℕ). afterRefusal (k .clock) n (k .request) h) (cond (isCommission (k .request)) uncommissioned h) (step k h)
 step-told k h = of-request k h (k .request)

@@ -4,7 +4,8 @@ use mathlib.Core.Path.{_≡_, refl, sym}
 use mathlib.Core.Bool.{true, false, false≢true}
 use Rattle.step_definition.specs.Configuration.{Config}
 use Rattle.step_definition.specs.Calls.{Start, Request, commission, other}
-use Rattle.step_definition.specs.Calls.{Operation, setKey, takeResults, canMove, startSigning, receive, processTimeout, aggregated, reset}
+use Rattle.step_definition.specs.Calls.{Operation, setKey, takeResults, canMove, startSigning, receive, processTimeout, aggregated}
+use Rattle.step_definition.specs.Calls.{reset, tellArrivals}
 use Rattle.step_definition.specs.Demand3.{plainOperation, plainRequest}
 
 pub data LeftOut : Request → Type 0 where
@@ -22,6 +23,7 @@ operation-left-out (receive entry bytes) e = absurd (false≢true (sym e))
 operation-left-out processTimeout e = absurd (false≢true (sym e))
 operation-left-out (aggregated ok) e = absurd (false≢true (sym e))
 operation-left-out reset e = aReset
+operation-left-out tellArrivals e = absurd (false≢true (sym e))
 
 -- a call that may not stand in the list is one of these
 pub only-left-out : (r : Request) → plainRequest r ≡ false → LeftOut r

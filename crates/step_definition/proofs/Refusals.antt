@@ -12,5 +12,5 @@ use Rattle.step_definition.proofs.Outcomes.{step-told}
 
 pub refusal-changes :
     (k : Call) (h : Held) (n : ℕ) → step k h .answer .number ≡ suc n
-    → (step k h .after ≡ afterRefusal (suc n) (k .request) h) × (step k h .answer .bytes ≡ [])
+    → (step k h .after ≡ afterRefusal (k .clock) (suc n) (k .request) h) × (step k h .answer .bytes ≡ [])
 refusal-changes k h n e = step-told k h .refusal n e

@@ -21,8 +21,8 @@ abbrev pub Awaited : SignRoundInfo → Type 0
 Awaited i = i .sign-wait-signer-ids ≡ map responderId (i .public-nonces)
 
 -- a responder's id goes where its response goes
-pub add-awaited : (q : NonceResponse) (rs : List SignRoundInfo) → All Awaited rs → All Awaited (addResponse q rs)
-add-awaited q rs h =
+pub add-awaited : (now : ℕ) (q : NonceResponse) (rs : List SignRoundInfo) → All Awaited rs → All Awaited (addResponse now q rs)
+add-awaited now q rs h =
     all-change Awaited _ _ _ rs
     (λ r a. ap (insert (q .signer-id)) a ∙ sym (map-insertBy responderId q (r .public-nonces)))
     (refl, tt) h

@@ -11,13 +11,15 @@ use Rattle.step_definition.specs.Lists.{isSome, given, first}
 use Rattle.step_definition.specs.Configuration.{Config}
 use Rattle.step_definition.specs.Coordinator.{Coordinator, Held, uncommissioned, miscounted, commissioned, withJob}
 use Rattle.step_definition.specs.Calls.{Entry, process, processMessage, Request, commission, other, Call, brings, brought, Outcome, failing}
-use Rattle.step_definition.specs.Calls.{Operation, setKey, takeResults, canMove, startSigning, receive, processTimeout, aggregated, reset}
+use Rattle.step_definition.specs.Calls.{Operation, setKey, takeResults, canMove, startSigning, receive, processTimeout, aggregated}
+use Rattle.step_definition.specs.Calls.{reset, tellArrivals}
 use Rattle.step_definition.specs.Phases.{phaseOf, contentOf, shareResponseIn}
 use Rattle.step_definition.specs.Questions.{question13, question14, question24}
 use Rattle.step_definition.specs.Silence.{Watch, listening, sealed, heardIn, unlessFired, heardBy, heardOn, heard, isStart, watchAfter}
 use Rattle.step_definition.specs.Starts.{naming, startRound}
 use Rattle.step_definition.specs.Timeouts.{timeout}
-use Rattle.step_definition.specs.Step.{onMessage, onEntry, onPacket, onAggregated, onResults, own, onCommission, onHeld, stepOf, step}
+use Rattle.step_definition.specs.Step.{onMessage, onEntry, onPacket, onAggregated, onResults, onArrivals, own, onCommission, onHeld}
+use Rattle.step_definition.specs.Step.{stepOf, step}
 use Rattle.step_definition.proofs.Cases.{cond-case}
 use Rattle.step_definition.proofs.Phases.{is-idle}
 use Rattle.step_definition.proofs.Verdicts.{Before, gets4, gets5, gets6, gets7, goesOn, before-case, timeout-case}
@@ -80,7 +82,7 @@ module _ (k : Call) (c : Coordinator) where
 
   -- what a call does once 4 to 7 are yes
   own-good : (o : Operation) → Good (commissioned c) (heardBy k (brings o) c) (isStart (brings o)) (own k o c)
-  unfolding own heardBy watchAfter
+  unfolding own onArrivals heardBy watchAfter
   own-good (setKey which held) = quiet-good (unheard (commissioned c))
   own-good (takeResults dkg ended) = results-good dkg ended
   own-good (canMove p) = quiet-good (unheard (commissioned c))
@@ -94,6 +96,7 @@ module _ (k : Call) (c : Coordinator) where
       (unless-late c (k .clock) none _ refl (timeout-case (k .clock) c (phaseOf (c .position .state))) (quiet-good (unheard (commissioned c))))
   own-good (aggregated ok) = aggregated-good ok
   own-good reset = quiet-good (λ w i. tt)
+  own-good tellArrivals = quiet-good (unheard (commissioned c))
 
   -- 4 to 7 first
   asked-good :

@@ -112,18 +112,18 @@ module _ (c : Coordinator) (heard : Option SignatureShareResponse) (start : Bool
   -- in NonceGather: a response recorded; the share request asks exactly the waiters
   record-good :
       (now : ℕ) (t : SignatureType) (q : NonceResponse) → phaseOf (c .position .state) ≡ gatheringNonces t → (v : RecordVerdict)
-      → Fine (onRecord now t (c .position .root) q (recording q c) v)
+      → Fine (onRecord now t (c .position .root) q (recording now q c) v)
   unfolding onRecord first watchAfter
   record-good now t q p v = of v
     where
-      kept : (w : Watch) → Known w (commissioned c) → All Awaited (addResponse q (c .round .message-nonces))
-      kept w i = add-awaited q (c .round .message-nonces) (subst (λ (p : Phase). Knows w p c) p i)
+      kept : (w : Watch) → Known w (commissioned c) → All Awaited (addResponse now q (c .round .message-nonces))
+      kept w i = add-awaited now q (c .round .message-nonces) (subst (λ (p : Phase). Knows w p c) p i)
 
-      of : (v : RecordVerdict) → Fine (onRecord now t (c .position .root) q (recording q c) v)
+      of : (v : RecordVerdict) → Fine (onRecord now t (c .position .root) q (recording now q c) v)
       of tooFew = calm-good (recorded (q .signer-id) ∷ []) (refl, refl, refl) (λ w i. rw p (kept w i))
       of noGroupKey = calm-good (recorded (q .signer-id) ∷ []) (refl, refl, refl) (λ w i. rw p (kept w i))
       of suffices =
-          plain-good refl refl (λ w i. (awaited-of (q .message) (addResponse q (c .round .message-nonces)) (kept w i), refl, refl))
+          plain-good refl refl (λ w i. (awaited-of (q .message) (addResponse now q (c .round .message-nonces)) (kept w i), refl, refl))
 
   nonces-good :
       (now : ℕ) (t : SignatureType) {q : NonceResponse} {v : NonceVerdict} → phaseOf (c .position .state) ≡ gatheringNonces t → Moves c
@@ -134,7 +134,7 @@ module _ (c : Coordinator) (heard : Option SignatureShareResponse) (start : Bool
   nonces-good now t p moves gets18 = still moves
   nonces-good now t p moves ignores = still moves
   nonces-good now t p moves gets19 = still moves
-  nonces-good now t {q = q} p moves (isNew e) = record-good now t q p (recordVerdict q (recording q c))
+  nonces-good now t {q = q} p moves (isNew e) = record-good now t q p (recordVerdict q (recording now q c))
 
   -- in SigShareGather: what comes of shares once their waiter is taken off
   take-good :

@@ -7,7 +7,8 @@ use mathlib.Core.List.{List, [], _∷_, map}
 use mathlib.Core.Option.{some}
 use Rattle.wire.specs.Bytes.{le, number, joined, every, sameBytes}
 use Rattle.layout.specs.Decode.{entries, idsIn, nonceIn, noncesIn, shareIn, responseIn, requestIn, shareRequestIn, shareResponseIn, messageIn, responseWithin, keyCount, within, decode}
-use Rattle.layout.specs.Encode.{headerBytes, table, packet, idBytes, nonceBytes, shareBytes, responseParts, encodeResponse, header, parts, encode, encodeJob, encodeNonceTimeout, encodeInsufficientSigners}
+use Rattle.layout.specs.Encode.{headerBytes, table, packet, idBytes, nonceBytes, shareBytes, responseParts, encodeResponse, header, parts}
+use Rattle.layout.specs.Encode.{encode, encodeJob, encodeNonceTimeout, encodeInsufficientSigners, clockBytes, encodeArrivals}
 use Rattle.layout.specs.LaidOut.{headerIn, partAt, partsFrom, tiles, dkgOnly, headed, framed, wholeEntries, wholeShare, wholeResponse, responseLaidOut, wholeRoot, wholeLists, laidOut}
 use Rattle.layout.specs.Types.{typeOf, rootLength}
 use Rattle.layout.specs.Messages.{nonceResponse}
@@ -25,7 +26,8 @@ use Rattle.step_definition.specs.Starts.{startRound, idleRequest, idle}
 use Rattle.step_definition.specs.Timeouts.{nonceTimeout, shareTimeout, timeoutIn}
 use Rattle.step_definition.specs.NonceGather.{nonceVerdict, recordVerdict, onRecord, onNonces}
 use Rattle.step_definition.specs.SigShareGather.{shareVerdict, anyWaits, takeVerdict, onTake, onShares}
-use Rattle.step_definition.specs.Step.{messageIn as messageIn′, onMessage, onPacket, onAggregated, onResults, own, onCommission, onHeld, stepOf}
+use Rattle.step_definition.specs.Step.{messageIn as messageIn′, onMessage, onPacket, onAggregated, onResults, onArrivals, own}
+use Rattle.step_definition.specs.Step.{onCommission, onHeld, stepOf}
 use Rattle.step_definition.specs.Run.{maliciousIn, run, final}
 use Rattle.step_definition.specs.rounds.Rounds.{rounds, played, leftIn, play, playFrom, at, sends, processes, ready, request9, q0, q1, q2, answers, shares9}
 use Rattle.step_definition.specs.rounds.Corners.{corners}
@@ -33,9 +35,11 @@ use Rattle.step_definition.specs.rounds.EveryCall.{commissionings, every
 use Rattle.step_definition.specs.rounds.Asked.{asked}
 use Rattle.step_definition.specs.rounds.Jobs.{jobs}
 use Rattle.step_definition.specs.rounds.Marks.{marks}
+use Rattle.step_definition.specs.rounds.Arrivals.{arrivals}
 use Rattle.step_definition.specs.rounds.Kept.{kept, opener, opened9}
 use Rattle.step_definition.specs.Coordinator.{uncommissioned, commissioned}
 use Rattle.step_definition.specs.Calls.{coordinatorKey, aggregateKey, Call, setKey, takeResults, canMove, processTimeout, aggregated}
+use Rattle.step_definition.specs.Calls.{tellArrivals}
 use Rattle.step_definition.specs.ResponseLog.{orLater}
 use Rattle.step_definition.specs.Counts.{configWithin, recordWithin, sharesWithin, withinLimits}
 use Rattle.step_definition.specs.rounds.AtLimits.{count, atLimits}
@@ -48,7 +52,7 @@ abbrev twoAnswers : List Call
 twoAnswers = answers 0 q0 ∷ answers 0 q1 ∷ []
 
 -- ... and by a list in which each call stands that may: the key calls, the results, the move question, both calls that bring a packet, the
--- timeout and the aggregator's answer, some of them refused
+-- timeout, the aggregator's answer and the query of arrivals, some of them refused
 abbrev eachCall : List Call
 eachCall =
     at 0 (setKey coordinatorKey false)
@@ -60,6 +64,7 @@ eachCall =
     ∷ sends 0 (nonceResponse q2)
     ∷ at 0 processTimeout
     ∷ at 0 (aggregated true)
+    ∷ at 0 tellArrivals
     ∷ processes 0 (nonceResponse q1)
     ∷ []
 
@@ -68,7 +73,7 @@ pub record Met : Type 0 where
   pub plain : Plain twoAnswers (commissioned opened9)
   pub sends : firstShareRequest twoAnswers (commissioned opened9) ≡ some (record { call = 1; request = shares9 (q0 ∷ q1 ∷ []) })
   pub each-plain : Plain eachCall (commissioned opened9)
-  pub each-sends : firstShareRequest eachCall (commissioned opened9) ≡ some (record { call = 9; request = shares9 (q0 ∷ q1 ∷ q2 ∷ []) })
+  pub each-sends : firstShareRequest eachCall (commissioned opened9) ≡ some (record { call = 10; request = shares9 (q0 ∷ q1 ∷ q2 ∷ []) })
 
 -- all tables in one computation
 tables :
@@ -82,10 +87,12 @@ tables :
     × (map count atLimits ≡ atLimits)
     × (map playRun watchedRuns ≡ watchedRuns)
     × (map play marks ≡ marks)
+    × (map play arrivals ≡ arrivals)
     × Met
 unfolding le number joined every sameBytes entries idsIn nonceIn noncesIn shareIn responseIn requestIn shareRequestIn
     shareResponseIn messageIn responseWithin keyCount within decode headerBytes table packet idBytes nonceBytes
     shareBytes responseParts encodeResponse header parts encode encodeJob encodeNonceTimeout encodeInsufficientSigners
+    clockBytes encodeArrivals
     headerIn partAt partsFrom tiles dkgOnly headed framed wholeEntries wholeShare wholeResponse responseLaidOut
     wholeRoot wholeLists laidOut typeOf rootLength member subset sameSet validPoint validNonce noncesValid accepted
     canMoveTo sameType typesAgree same find change insertBy insertAll remove without distinct next previous question1
@@ -94,11 +101,12 @@ unfolding le number joined every sameBytes entries idsIn nonceIn noncesIn shareI
     question20 question21 question22 question24 question25 rootFor recvKeyIds shareKeyIds joinedKeys joinedNonces
     joinedShares allShared whole startRound idleRequest idle nonceTimeout shareTimeout timeoutIn nonceVerdict recordVerdict
     onRecord onNonces shareVerdict anyWaits takeVerdict onTake onShares messageIn′ onMessage onPacket onAggregated
-    onResults own onCommission onHeld stepOf final played leftIn play playFrom rounds corners commissionings everyCall
-    asked jobs marks kept first plainOperation plainRequest groupKeyIn firstShareRequest orLater configWithin recordWithin
+    onResults onArrivals own onCommission onHeld stepOf final played leftIn play playFrom rounds corners commissionings everyCall
+    asked jobs marks arrivals kept first plainOperation plainRequest groupKeyIn firstShareRequest orLater configWithin recordWithin
     sharesWithin withinLimits count atLimits maliciousIn run sealed heardIn heardBy heardOn heard listen listening
     watchAfter watch watched playRun watchedRuns
 tables = (
+  refl,
   refl,
   refl,
   refl,
@@ -128,7 +136,7 @@ tables = (
             (
               refl,
               refl,
-              (refl, refl, (refl, refl, (refl, refl, (refl, refl, (refl, refl, tt))))),
+              (refl, refl, (refl, refl, (refl, refl, (refl, refl, (refl, refl, (refl, refl, tt)))))),
             ),
           ),
         ),
@@ -168,5 +176,8 @@ watched-runs = tables .8
 pub mark-rounds : map play marks ≡ marks
 mark-rounds = tables .9
 
+pub arrival-rounds : map play arrivals ≡ arrivals
+arrival-rounds = tables .10
+
 pub demand-3-can-be-met : Met
-demand-3-can-be-met = tables .10
+demand-3-can-be-met = tables .11

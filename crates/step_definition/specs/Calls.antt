@@ -1,6 +1,6 @@
 -- Calls with all that a host gives, answers, and a step's outcome.
 use Prim.Native.Nat.{ℕ}
-use mathlib.Core.Bool.{Bool, false}
+use mathlib.Core.Bool.{Bool, true, false}
 use mathlib.Core.List.{List, []}
 use mathlib.Core.Option.{Option, some, none}
 use Rattle.layout.specs.declared.SignatureType.{SignatureType}
@@ -35,6 +35,7 @@ pub data Operation : Type 0 where
   processTimeout : Operation
   aggregated : Bool → Operation
   reset : Operation
+  tellArrivals : Operation
 
 -- "Commissioning", and "Every other call"
 pub data Request : Type 0 where
@@ -66,6 +67,7 @@ brings (receive entry bytes) = aPacket entry bytes
 brings processTimeout = noMore
 brings (aggregated ok) = noMore
 brings reset = noMore
+brings tellArrivals = noMore
 
 abbrev pub brought : Request → Brought
 brought (commission g) = noMore
@@ -79,6 +81,13 @@ setting aggregateKey held keys = record { coordinator-public-key = keys .coordin
 -- the Rust tells errors (Err) and results (OperationResult) apart; a packet goes out; a job goes to the aggregator
 pub data Class : Type 0 where
   nothing packet job result error : Class
+
+abbrev pub isNothing : Class → Bool
+isNothing nothing = true
+isNothing packet = false
+isNothing job = false
+isNothing result = false
+isNothing error = false
 
 -- number: 01's, 0 where no question is answered no. values: got and expected (16 to 18), the signer (20 to 22), the result kind, yes or
 -- no. mark: whether the job is whole. bytes: what is written to the answer buffer

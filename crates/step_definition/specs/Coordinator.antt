@@ -7,8 +7,8 @@ use mathlib.Core.Option.{Option, none}
 use lib.Dec.{eqb}
 use Rattle.wire.specs.Bytes.{sameBytes}
 use Rattle.layout.specs.declared.Ids.{Ids}
-use Rattle.layout.specs.Messages.{NonceResponse, SignatureShare}
-use Rattle.layout.specs.Encode.{noIds}
+use Rattle.layout.specs.Messages.{NonceResponse, SignatureShare, Arrival}
+use Rattle.layout.specs.Encode.{noIds, arrivalSigner}
 use Rattle.state_table.specs.declared.State.the-variants.{Idle}
 use Rattle.state_table.specs.States.{Position, position}
 use Rattle.step_definition.specs.Lists.{isSome, given, find, change, insertBy}
@@ -27,11 +27,13 @@ pub record Standing : Type 0 where
   pub keys : Keys
   pub malicious-signer-ids : List ℕ
 
--- SignRoundInfo: the responses to one message, each with its own ids, key ids and nonces as sent, and who is waited for. (The Rust's
--- nonce_recv_key_ids is the union of the responders' key sets, which the configuration gives.)
+-- SignRoundInfo: the responses to one message, each with its own ids, key ids and nonces as sent; when each came, which the Rust does not
+-- keep (02, e); and who is waited for. (The Rust's nonce_recv_key_ids is the union of the responders' key sets, which the configuration
+-- gives.)
 pub record SignRoundInfo : Type 0 where
   pub message : List ℕ
   pub public-nonces : List NonceResponse
+  pub arrivals : List Arrival
   pub sign-wait-signer-ids : List ℕ
 
 -- signature_shares: what one signer sent
@@ -143,7 +145,7 @@ withIteration n c = withIds (record { «dkg_id» = c .ids .«dkg_id»; «sign_id
 abbrev pub withDkgId : ℕ → Coordinator → Coordinator
 withDkgId n c = withIds (record { «dkg_id» = n; «sign_id» = c .ids .«sign_id»; «sign_iter_id» = c .ids .«sign_iter_id» }) c
 
--- Records. The record of a message; its responses and its waiters, none where there is no record
+-- Records. The record of a message; its responses, their arrivals and its waiters, none where there is no record
 abbrev pub isFor : List ℕ → SignRoundInfo → Bool
 isFor m r = sameBytes m (r .message)
 
@@ -152,6 +154,9 @@ recordOf m rs = find (isFor m) rs
 
 abbrev pub responsesOf : Option SignRoundInfo → List NonceResponse
 responsesOf o = given o (λ (r : SignRoundInfo). r .public-nonces) []
+
+abbrev pub arrivalsOf : Option SignRoundInfo → List Arrival
+arrivalsOf o = given o (λ (r : SignRoundInfo). r .arrivals) []
 
 abbrev pub waitersOf : Option SignRoundInfo → List ℕ
 waitersOf o = given o (λ (r : SignRoundInfo). r .sign-wait-signer-ids) []
@@ -167,26 +172,33 @@ responderId q = q .signer-id
 abbrev pub responded : ℕ → List NonceResponse → Bool
 responded id qs = isSome (find (λ (q : NonceResponse). eqb id (q .signer-id)) qs)
 
--- a response in its place by signer id; its signer is waited for
-abbrev pub withResponse : NonceResponse → SignRoundInfo → SignRoundInfo
-withResponse q r =
+-- "Each recorded nonce response keeps the clock reading of its call" (02, e)
+abbrev pub arriving : ℕ → NonceResponse → Arrival
+arriving now q = record { signer-id = q .signer-id; clock = now }
+
+-- a response and its arrival in their places by signer id; its signer is waited for
+abbrev pub withResponse : ℕ → NonceResponse → SignRoundInfo → SignRoundInfo
+withResponse now q r =
     record {
       message = r .message;
       public-nonces = insertBy responderId q (r .public-nonces);
+      arrivals = insertBy arrivalSigner (arriving now q) (r .arrivals);
       sign-wait-signer-ids = insert (q .signer-id) (r .sign-wait-signer-ids);
     }
 
 abbrev pub withoutWaiter : ℕ → SignRoundInfo → SignRoundInfo
 withoutWaiter id r =
-    record { message = r .message; public-nonces = r .public-nonces; sign-wait-signer-ids = remove id (r .sign-wait-signer-ids) }
+    let waiters = remove id (r .sign-wait-signer-ids) in
+    record { message = r .message; public-nonces = r .public-nonces; arrivals = r .arrivals; sign-wait-signer-ids = waiters }
 
 -- a record with its first response
-abbrev pub opened : NonceResponse → SignRoundInfo
-opened q = record { message = q .message; public-nonces = q ∷ []; sign-wait-signer-ids = q .signer-id ∷ [] }
+abbrev pub opened : ℕ → NonceResponse → SignRoundInfo
+opened now q =
+    record { message = q .message; public-nonces = q ∷ []; arrivals = arriving now q ∷ []; sign-wait-signer-ids = q .signer-id ∷ [] }
 
 -- a response put on the record of its message, which is opened where there is none
-abbrev pub addResponse : NonceResponse → List SignRoundInfo → List SignRoundInfo
-addResponse q rs = change (isFor (q .message)) (withResponse q) (opened q ∷ []) rs
+abbrev pub addResponse : ℕ → NonceResponse → List SignRoundInfo → List SignRoundInfo
+addResponse now q rs = change (isFor (q .message)) (withResponse now q) (opened now q ∷ []) rs
 
 -- the waiter taken off the record of a message
 abbrev pub removeWaiter : List ℕ → ℕ → List SignRoundInfo → List SignRoundInfo

@@ -23,12 +23,13 @@ configWithin g =
     && every (λ (s : SignerConfig). leb (length (keysIn (s .key-ids))) listLimit) (g .signers)
     && question3 g
 
--- a message, at most 10 responses and waiters, each response within 9's limits
+-- a message, at most 10 responses, arrivals and waiters, each response within 9's limits
 unfoldable pub recordWithin : SignRoundInfo → Bool
 recordWithin r =
     leb (length (r .message)) messageLimit
     && leb (length (r .public-nonces)) signerLimit
     && every responseWithin (r .public-nonces)
+    && leb (length (r .arrivals)) signerLimit
     && leb (length (r .sign-wait-signer-ids)) signerLimit
 
 -- at most 16 shares with at most 16 key ids in all

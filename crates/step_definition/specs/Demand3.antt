@@ -11,7 +11,8 @@ use Rattle.validity.specs.Keys.{member, sameSet}
 use Rattle.step_definition.specs.Configuration.{configured, keySet}
 use Rattle.step_definition.specs.Coordinator.{Coordinator, Standing, SignRoundInfo, Held, uncommissioned, miscounted, commissioned, responderId}
 use Rattle.step_definition.specs.Calls.{Request, commission, other, Call, nonceRequestIn, shareRequestIn}
-use Rattle.step_definition.specs.Calls.{Operation, setKey, takeResults, canMove, startSigning, receive, processTimeout, aggregated, reset}
+use Rattle.step_definition.specs.Calls.{Operation, setKey, takeResults, canMove, startSigning, receive, processTimeout, aggregated}
+use Rattle.step_definition.specs.Calls.{reset, tellArrivals}
 use Rattle.step_definition.specs.Step.{step}
 use Rattle.step_definition.specs.ResponseLog.{Opened, Page, Place, orLater}
 
@@ -39,6 +40,7 @@ plainOperation (receive entry bytes) = true
 plainOperation processTimeout = true
 plainOperation (aggregated ok) = true
 plainOperation reset = false
+plainOperation tellArrivals = true
 
 unfoldable pub plainRequest : Request → Bool
 plainRequest (commission g) = false

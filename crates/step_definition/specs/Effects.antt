@@ -30,9 +30,9 @@ requestNonces now t root c =
 abbrev pub nonceRequestOf : SignatureType → List ℕ → Coordinator → NonceRequest
 nonceRequestOf t root c = record { ids = c .ids; message = c .round .message; signature-type = t; root = root }
 
--- a response recorded
-abbrev pub recording : NonceResponse → Coordinator → Coordinator
-recording q c = withRecords (addResponse q (c .round .message-nonces)) c
+-- a response recorded, with the clock reading of its call
+abbrev pub recording : ℕ → NonceResponse → Coordinator → Coordinator
+recording now q c = withRecords (addResponse now q (c .round .message-nonces)) c
 
 -- nonce_recv_key_ids: the different keys of the responders' key sets
 unfoldable pub recvKeyIds : Config → List NonceResponse → List ℕ

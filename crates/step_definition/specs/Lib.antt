@@ -21,5 +21,6 @@ pub mod Refusals
 pub mod Run
 pub mod ResponseLog
 pub mod Demand3
+pub mod Arrivals
 pub mod Silence
 pub mod rounds

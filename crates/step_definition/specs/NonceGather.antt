@@ -66,7 +66,7 @@ onRecord now t root q c suffices =
     (commissioned after)
 
 abbrev pub recordResponse : ℕ → SignatureType → List ℕ → NonceResponse → Coordinator → Outcome
-recordResponse now t root q c = onRecord now t root q (recording q c) (recordVerdict q (recording q c))
+recordResponse now t root q c = onRecord now t root q (recording now q c) (recordVerdict q (recording now q c))
 
 unfoldable pub onNonces : ℕ → SignatureType → List ℕ → NonceResponse → Coordinator → NonceVerdict → Outcome
 onNonces now t root q c (wrongId n got expected) = failing n (got ∷ (expected ∷ [])) c

@@ -21,7 +21,8 @@ use Rattle.step_definition.specs.Lists.{isSome}
 use Rattle.step_definition.specs.Configuration.{Config, keysIn, configured, keySet}
 use Rattle.step_definition.specs.Coordinator.{Coordinator, recordOf, currentRecord}
 use Rattle.step_definition.specs.Phases.{phaseOf, isIdle}
-use Rattle.step_definition.specs.Calls.{Operation, setKey, takeResults, canMove, startSigning, receive, processTimeout, aggregated, reset, Call}
+use Rattle.step_definition.specs.Calls.{Operation, setKey, takeResults, canMove, startSigning, receive, processTimeout, aggregated}
+use Rattle.step_definition.specs.Calls.{reset, tellArrivals, Call}
 
 -- "lent store of 52,224 bytes or more (4)?" The rest of 4, "state commissioned, its counts within these limits", is a case of Held
 unfoldable pub question4 : ℕ → Bool
@@ -39,7 +40,8 @@ unfoldable pub question7 : ℕ → Bool
 question7 room = leb answerLength room
 
 -- which of 5, 6 and 7 a call is asked: "Any call but reset and the aggregator's answer: no job out (5)? Aggregator's answer: job out (6)?
--- Start, `process`, `process_timeout`, `process_message`: answer buffer of at least 19,232 bytes (7)?"
+-- Start, `process`, `process_timeout`, `process_message`: answer buffer of at least 19,232 bytes (7)?" The query of arrivals
+-- "passes the checks 4, 5 and 7" (02, e)
 pub record Asks : Type 0 where
   pub no-job : Bool
   pub a-job : Bool
@@ -57,6 +59,7 @@ asks (receive entry bytes) = asking true false true
 asks processTimeout = asking true false true
 asks (aggregated ok) = asking false true false
 asks reset = asking false false false
+asks tellArrivals = asking true false true
 
 -- what every call on a coordinator is asked before its own work: 4, then 5, 6 and 7 where they are asked; the number of the first that is
 -- answered no

@@ -9,6 +9,7 @@ use Rattle.layout.specs.declared.ResultKind.{ResultKind}
 use Rattle.layout.specs.declared.ResultKind.the-variants.{Sign, SignSchnorr, SignTaproot}
 use Rattle.layout.specs.Types.{resultOf}
 use Rattle.layout.specs.Messages.{NonceResponse, SignatureShareResponse, Message}
+use Rattle.layout.specs.Encode.{encodeArrivals}
 use Rattle.layout.specs.Decode.{Decoded, taken, refused, decode}
 use Rattle.state_table.specs.declared.State.the-variants.{Idle}
 use Rattle.state_table.specs.declared.StateType.{StateType}
@@ -19,10 +20,11 @@ use Rattle.step_definition.specs.Lists.{given}
 use Rattle.step_definition.specs.Ids.{insertAll}
 use Rattle.step_definition.specs.Configuration.{Config, question1, question2, question3, ascending}
 use Rattle.step_definition.specs.Coordinator.{Coordinator, Held, uncommissioned, miscounted, commissioned, fresh}
-use Rattle.step_definition.specs.Coordinator.{withPosition, withKeys, withEnded, withJob, withDkgId}
+use Rattle.step_definition.specs.Coordinator.{arrivalsOf, currentRecord, withPosition, withKeys, withEnded, withJob, withDkgId}
 use Rattle.step_definition.specs.Calls.{Entry, process, processMessage, Request, commission, other, Call, setting}
-use Rattle.step_definition.specs.Calls.{Operation, setKey, takeResults, canMove, startSigning, receive, processTimeout, aggregated, reset}
-use Rattle.step_definition.specs.Calls.{error, Outcome, outcome, plain, refusing, telling, quiet, failing, failed}
+use Rattle.step_definition.specs.Calls.{Operation, setKey, takeResults, canMove, startSigning, receive, processTimeout, aggregated}
+use Rattle.step_definition.specs.Calls.{reset, tellArrivals}
+use Rattle.step_definition.specs.Calls.{result, error, Outcome, outcome, plain, refusing, sending, telling, quiet, failing, failed}
 use Rattle.step_definition.specs.Effects.{abandon, forget}
 use Rattle.step_definition.specs.Phases.{Phase, idling, gatheringNonces, gatheringShares, resting, phaseOf}
 use Rattle.step_definition.specs.Phases.{Content, contentOf, nonceResponseIn, shareResponseIn}
@@ -90,6 +92,11 @@ onResults dkg ended c =
     (ask (question25 c ended) (failing 25 [] c)
     (quiet (withEnded (insertAll ended []) (withDkgId dkg c))))
 
+-- 02, e): "A new query writes kind 35, with two parts for the current message: responder ids ascending, and their readings ..; both parts
+-- are empty where no record exists." No timeout is tested, and nothing changes
+unfoldable pub onArrivals : Coordinator → Outcome
+onArrivals c = outcome (sending result (encodeArrivals (arrivalsOf (currentRecord c)))) [] (commissioned c)
+
 abbrev pub yesNo : Bool → ℕ
 yesNo true = 1
 yesNo false = 0
@@ -104,6 +111,7 @@ own k (receive entry bytes) c = onPacket entry (k .clock) (k .verdict) (decode b
 own k processTimeout c = unlessLate (k .clock) c (quiet c)
 own k (aggregated ok) c = onAggregated ok c
 own k reset c = quiet (forget (abandon c))
+own k tellArrivals c = onArrivals c
 
 -- "After 1 to 3 the state is uncommissioned"; otherwise the Rust's `new`. It is asked nothing else: not 4, and not 5
 unfoldable pub onCommission : Config → Outcome

@@ -6,5 +6,6 @@ pub mod Asked
 pub mod Kept
 pub mod Jobs
 pub mod Marks
+pub mod Arrivals
 pub mod AtLimits
 pub mod Runs

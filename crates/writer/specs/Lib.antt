@@ -1,2 +1,3 @@
 -- What is written of the results that are packets.
+pub mod Columns
 pub mod Results

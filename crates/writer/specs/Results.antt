@@ -2,11 +2,12 @@
 use Prim.Native.Nat.{ℕ}
 use mathlib.Core.Bool.{_&&_}
 use lib.Dec.{leb}
-use Rattle.layout.specs.Encode.{encodeNonceTimeout, encodeInsufficientSigners}
+use Rattle.layout.specs.Encode.{encodeNonceTimeout, encodeInsufficientSigners, encodeArrivals}
 use Rattle.layout.specs.Limits.{signerLimit}
 use Rattle.framing.specs.Writing.{Writing, writing}
 use Rattle.pieces.specs.declared.places.SignerIds.{SignerIds}
-use Rattle.pieces.specs.Places.{signersOf}
+use Rattle.pieces.specs.declared.places.Arrivals.{Arrivals}
+use Rattle.pieces.specs.Places.{signersOf, arrivalsOf}
 
 unfoldable pub writeNonceTimeout : ℕ → SignerIds → SignerIds → Writing
 writeNonceTimeout room waiters malicious =
@@ -16,3 +17,6 @@ writeNonceTimeout room waiters malicious =
 unfoldable pub writeInsufficientSigners : ℕ → SignerIds → Writing
 writeInsufficientSigners room malicious =
     writing room (leb (malicious .count) signerLimit) (encodeInsufficientSigners (signersOf malicious))
+
+unfoldable pub writeArrivals : ℕ → Arrivals → Writing
+writeArrivals room list = writing room (leb (list .count) signerLimit) (encodeArrivals (arrivalsOf list))

@@ -19,6 +19,7 @@ fn main() -> Result<(), Refusal> {
     let request = NonceRequest::read(&packet)?;
     tell_request(&packet, &request);
     nonces(&mut coordinator, 101, &request, 0)?;
+    tell_waiting(&coordinator, &[])?;
     let shares_wanted = nonces(&mut coordinator, 102, &request, 1)?.expect("3 keys have answered");
 
     println!("\nsigner 0 falls silent");
@@ -34,6 +35,7 @@ fn main() -> Result<(), Refusal> {
     println!();
     nonces(&mut coordinator, 114, &request, 0)?;
     nonces(&mut coordinator, 115, &request, 2)?;
+    tell_waiting(&coordinator, &[SignerId(0)])?;
     let shares_wanted = nonces(&mut coordinator, 116, &request, 1)?.expect("3 keys have answered");
     shares(&mut coordinator, 117, &shares_wanted, 2)?;
     shares(&mut coordinator, 118, &shares_wanted, 1)?;
@@ -75,6 +77,16 @@ fn nonces(c: &mut Coordinator, clock: u64, request: &NonceRequest, i: usize) -> 
         println!("       signer {}: {}", response.signer, list(&response.key_ids));
     }
     Ok(Some(request))
+}
+
+/// Whom an operator would call before the timeout: who has not answered, and is not left out.
+fn tell_waiting(c: &Coordinator, left_out: &[SignerId]) -> Result<(), Refusal> {
+    let came = c.arrivals()?;
+    let answered: Vec<String> = came.iter().map(|a| format!("signer {} at {}", a.signer, a.clock)).collect();
+    let missing = SIGNERS.iter().map(|(id, _)| id).filter(|id| !came.iter().any(|a| a.signer == **id));
+    let missing: Vec<String> = missing.filter(|id| !left_out.contains(id)).map(SignerId::to_string).collect();
+    println!("  answered: {}; an operator would call: {}", answered.join(", "), missing.join(", "));
+    Ok(())
 }
 
 /// A signer sends its shares.

@@ -11,8 +11,9 @@ use crate::signature::SignatureKind;
 /// Packets are copies: a host saves state and store before it sends what is in them.
 #[derive(Clone, Debug, PartialEq, Eq)]
 pub enum Answer {
-    /// Nothing to do: a packet was recorded, or dropped without a word, as fire.rs does it. No query tells the two apart; what does is
-    /// whether the call changed [`state`](crate::Coordinator::state) or [`store`](crate::Coordinator::store).
+    /// Nothing to do: a packet was recorded, or dropped without a word, as fire.rs does it. What tells the two apart is whether the call
+    /// changed [`state`](crate::Coordinator::state) or [`store`](crate::Coordinator::store); of nonces also
+    /// [`arrivals`](crate::Coordinator::arrivals), which names who has answered.
     Nothing,
     /// A packet to be sealed and sent to the signers: kind 1 or 3.
     Packet(Vec<u8>),
@@ -72,8 +73,7 @@ impl Answer {
 
     /// The library's answer. `out` is what the call was lent to write to: the front of it, as long as the answer says, was written.
     pub(crate) fn of(a: RcAnswer, out: &[u8]) -> Result<Answer, Refusal> {
-        let length = usize::try_from(a.length).map_or(out.len(), |n| n.min(out.len()));
-        let written = &out[..length];
+        let written = written(a, out);
         match a.class_ {
             ffi::NOTHING => Ok(Answer::Nothing),
             ffi::PACKET => Ok(Answer::Packet(written.to_vec())),
@@ -83,6 +83,12 @@ impl Answer {
             _ => Err(Refusal::unknown(a)),
         }
     }
+}
+
+/// What the call wrote to `out`.
+pub(crate) fn written(a: RcAnswer, out: &[u8]) -> &[u8] {
+    let length = usize::try_from(a.length).map_or(out.len(), |n| n.min(out.len()));
+    &out[..length]
 }
 
 fn result(a: RcAnswer, written: &[u8]) -> Result<Answer, Refusal> {
@@ -99,6 +105,6 @@ fn late(written: &[u8]) -> Option<Answer> {
     match Outgoing::read(written).ok()? {
         Outgoing::NonceTimeout { waiters, malicious } => Some(Answer::NonceTimeout { waiters, malicious }),
         Outgoing::InsufficientSigners { malicious } => Some(Answer::InsufficientSigners { malicious }),
-        Outgoing::Job(_) => None,
+        Outgoing::Job(_) | Outgoing::Arrivals(_) => None,
     }
 }

@@ -1,10 +1,13 @@
 //! The coordinator: the library's calls, over buffers of its own.
 
-use crate::answer::Answer;
+use crate::answer::{self, Answer};
 use crate::buffers::Buffers;
 use crate::config::Config;
 use crate::ffi::{self, RcAnswer};
 use crate::ids::SignerId;
+use crate::limits::ANSWER_LENGTH;
+use crate::lists::Arrival;
+use crate::outgoing::Outgoing;
 use crate::phase::Phase;
 use crate::refusal::Refusal;
 use crate::signature::SignatureType;
@@ -20,7 +23,7 @@ pub enum Verdict {
 }
 
 /// A signing coordinator. It owns its state, what signers sent (the store) and an answer buffer; `&mut self` sees to it that one caller at a
-/// time uses them.
+/// time uses them. [`arrivals`](Coordinator::arrivals), which only reads, may be asked by several threads at once.
 ///
 /// Clock readings are nanoseconds since whenever the host likes, and do not go back; one that does counts as no time elapsed.
 ///
@@ -243,6 +246,47 @@ impl Coordinator {
         Answer::of(a, &self.buffers.out)
     }
 
+    /// Who has answered the current message, and when: ascending by signer, with the clock reading of the call that recorded its response,
+    /// as the host gave it to [`process`](Coordinator::process) or [`process_message`](Coordinator::process_message), also where it went
+    /// back or came late. Nobody where nobody has answered. For an operator who calls slow signers before the timeout: whom one would call
+    /// is every configured signer that is neither here nor left out.
+    ///
+    /// A second response leaves the first one's reading, and refusal 10 while nonces are gathered keeps the response with its reading. A
+    /// nonce request (a start, a retry, a request that is taken in Idle), a reset and commissioning empty the list; success does not. After
+    /// a start that was refused with 11 the current message is that start's, and often nobody has answered it.
+    ///
+    /// No timeout is tested and nothing is changed: there is nothing to save. Refused with 4 and 5.
+    ///
+    /// ```
+    /// use roundcabinet::*;
+    ///
+    /// let config = (0..3).fold(Config::new(3, 3, 3), |c, i| c.signer(Signer::new(SignerId(i), [KeyId(i + 1)])));
+    /// let mut coordinator = Coordinator::commission(&config.verify_packet_sigs(false))?;
+    /// coordinator.set_group_key(true)?;
+    /// coordinator.take_results(7, &[SignerId(0), SignerId(1), SignerId(2)])?;
+    /// let request = NonceRequest::read(&coordinator.start_signing_round(100, b"pay", SignatureType::Frost, None)?)?;
+    /// assert_eq!(coordinator.arrivals(), Ok(vec![]));
+    ///
+    /// let respond = |i| signer::answer(&request, SignerId(i), &[KeyId(i + 1)], &[]);
+    /// coordinator.process(101, Verdict::Good, &respond(2)?)?;
+    /// coordinator.process(103, Verdict::Good, &respond(0)?)?;
+    /// let came = [Arrival { signer: SignerId(0), clock: 103 }, Arrival { signer: SignerId(2), clock: 101 }];
+    /// assert_eq!(coordinator.arrivals()?, came); // call signer 1
+    /// # Ok::<(), Refusal>(())
+    /// ```
+    pub fn arrivals(&self) -> Result<Vec<Arrival>, Refusal> {
+        // A buffer of its own, so that nothing is borrowed mutably.
+        let mut out = vec![0; ANSWER_LENGTH];
+        let a = ffi::tell_arrivals(&self.buffers.state, &self.buffers.store, &mut out);
+        if a.class_ == ffi::ERROR {
+            return Err(Refusal::of(a));
+        }
+        match Outgoing::read(answer::written(a, &out)) {
+            Ok(Outgoing::Arrivals(arrivals)) => Ok(arrivals),
+            _ => Err(Refusal::unknown(a)),
+        }
+    }
+
     /// The aggregator's answer to the job that is out: whether it succeeded. [`Answer::Signed`], and Idle; or
     /// [`Answer::AggregationFailed`]. Refused with 4 and 6.
     ///
@@ -287,7 +331,7 @@ impl Coordinator {
     /// assert_eq!(coordinator.is_idle(), Ok(false));
     /// coordinator.reset()?;
     /// assert_eq!(coordinator.is_idle(), Ok(true));
-    /// assert_eq!(Coordinator::load([0; 3200], [0; 52224]).is_idle(), Err(Refusal::State)); // no call left these
+    /// assert_eq!(Coordinator::load([0; 3520], [0; 52224]).is_idle(), Err(Refusal::State)); // no call left these
     /// # Ok::<(), Refusal>(())
     /// ```
     pub fn is_idle(&mut self) -> Result<bool, Refusal> {

@@ -2,8 +2,8 @@
 //!
 //! What the header asks of a host holds in every block below for the same reasons, and each SAFETY comment names what is its own:
 //! - pointers come from slices that live through the call, so they are not null, and lengths are those of the slices;
-//! - what is written is borrowed mutably (`&mut Buffers`, three boxes of their own, or a writer's `&mut [u8]`), so no other buffer of the
-//!   call overlaps it, and no other caller has it meanwhile;
+//! - what is written is borrowed mutably (`&mut Buffers`, three boxes of their own, or a writer's or a query's `&mut [u8]`), so no other
+//!   buffer of the call overlaps it, and no other caller has it meanwhile;
 //! - the library keeps no pointer, and it is proved that it reads and writes nothing outside the buffers and that it returns.
 
 use crate::buffers::Buffers;
@@ -122,6 +122,21 @@ pub(crate) struct RcSignerIds {
 
 #[repr(C)]
 #[derive(Clone, Copy, Debug, Default, PartialEq, Eq)]
+pub(crate) struct RcArrival {
+    pub(crate) signer_id: u32,
+    pub(crate) reserved: u32,
+    pub(crate) clock: u64,
+}
+
+#[repr(C)]
+#[derive(Clone, Copy, Debug, Default, PartialEq, Eq)]
+pub(crate) struct RcArrivals {
+    pub(crate) arrivals: [RcArrival; SIGNER_LIMIT],
+    pub(crate) count: u64,
+}
+
+#[repr(C)]
+#[derive(Clone, Copy, Debug, Default, PartialEq, Eq)]
 pub(crate) struct RcPlace {
     pub(crate) at: u64,
     pub(crate) count: u64,
@@ -191,6 +206,8 @@ extern "C" {
                           clock: u64, verdict: u8, packet: *const u8, packet_length: usize) -> RcAnswer;
     fn rc_process_timeout(state: *mut u8, state_length: usize, store: *const u8, store_length: usize,
                           out: *mut u8, out_length: usize, clock: u64) -> RcAnswer;
+    fn rc_tell_arrivals(state: *const u8, state_length: usize, store: *const u8, store_length: usize,
+                        out: *mut u8, out_length: usize) -> RcAnswer;
     fn rc_aggregated(state: *mut u8, state_length: usize, store: *const u8, store_length: usize, ok: u8) -> RcAnswer;
     fn rc_reset(state: *mut u8, state_length: usize, store: *const u8, store_length: usize) -> RcAnswer;
     fn rc_can_move_to(state: *mut u8, state_length: usize, store: *const u8, store_length: usize, next: u8, signature_type: u8,
@@ -207,6 +224,7 @@ extern "C" {
     fn rc_write_dkg_coordinator(out: *mut u8, out_length: usize, dkg_id: u64) -> RcWritten;
     fn rc_write_nonce_timeout(out: *mut u8, out_length: usize, waiters: RcSignerIds, malicious: RcSignerIds) -> RcWritten;
     fn rc_write_insufficient_signers(out: *mut u8, out_length: usize, malicious: RcSignerIds) -> RcWritten;
+    fn rc_write_arrivals(out: *mut u8, out_length: usize, arrivals: RcArrivals) -> RcWritten;
     fn rc_write_nonce_response(out: *mut u8, out_length: usize, head: RcResponseHead, message: *const u8, message_length: usize,
                                key_ids: *const u32, key_count: usize, nonces: *const u8, nonces_length: usize) -> RcWritten;
     fn rc_write_signature_share_response(out: *mut u8, out_length: usize, head: RcResponseHead, share_ids: *const u32,
@@ -338,6 +356,11 @@ pub(crate) fn process_timeout(b: &mut Buffers, clock: u64) -> RcAnswer {
     }
 }
 
+pub(crate) fn tell_arrivals(state: &[u8], store: &[u8], out: &mut [u8]) -> RcAnswer {
+    // SAFETY: `out` is written; state and store are only read, so that others may read them meanwhile.
+    unsafe { rc_tell_arrivals(state.as_ptr(), state.len(), store.as_ptr(), store.len(), out.as_mut_ptr(), out.len()) }
+}
+
 pub(crate) fn aggregated(b: &mut Buffers, ok: bool) -> RcAnswer {
     // SAFETY: the state is written, the store read, both from `b`.
     unsafe { rc_aggregated(b.state.as_mut_ptr(), b.state.len(), b.store.as_ptr(), b.store.len(), u8::from(ok)) }
@@ -441,6 +464,11 @@ pub(crate) fn write_nonce_timeout(out: &mut [u8], waiters: RcSignerIds, maliciou
 pub(crate) fn write_insufficient_signers(out: &mut [u8], malicious: RcSignerIds) -> RcWritten {
     // SAFETY: `out` is written; the list is a copy.
     unsafe { rc_write_insufficient_signers(out.as_mut_ptr(), out.len(), malicious) }
+}
+
+pub(crate) fn write_arrivals(out: &mut [u8], arrivals: RcArrivals) -> RcWritten {
+    // SAFETY: `out` is written; the list is a copy.
+    unsafe { rc_write_arrivals(out.as_mut_ptr(), out.len(), arrivals) }
 }
 
 pub(crate) fn write_nonce_response(

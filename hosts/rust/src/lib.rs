@@ -21,6 +21,9 @@
 //!
 //! And a start belongs into Idle alone: ask [`Coordinator::is_idle`] before [`Coordinator::start_signing_round`].
 //!
+//! While nonces are waited for, [`Coordinator::arrivals`] says who has answered, and when: an operator may call the others before the
+//! timeout.
+//!
 //! A whole round, with two signers of three keys:
 //!
 //! ```
@@ -101,7 +104,7 @@ pub use limits::{
     version, ANSWER_LENGTH, KEY_LIMIT, MESSAGE_LIMIT, NONCE_RESPONSE_LIMIT, SHARE_RESPONSE_LIMIT, SIGNER_LIMIT,
     STATE_LENGTH, STATE_VERSION, STORE_LENGTH,
 };
-pub use lists::{Nonce, Share};
+pub use lists::{Arrival, Nonce, Share};
 pub use outgoing::{Job, Outgoing};
 pub use packet::{Header, Kind, Packet};
 pub use phase::Phase;

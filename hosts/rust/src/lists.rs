@@ -1,9 +1,10 @@
-//! The lists in a packet's parts: key ids, signer ids, nonces and shares, read from bytes and written to bytes.
+//! The lists in a packet's parts: key ids, signer ids, clock readings, nonces and shares, read from bytes and written to bytes.
 
 use crate::ids::{KeyId, SignerId};
 
 const POINT: usize = 33;
 const NUMBER: usize = 4;
+const CLOCK: usize = 8;
 
 /// A signer's two nonce commitments for one key, as bytes. The library compares them with identity and generator, and nothing else: the
 /// host vouches that other bytes are points.
@@ -26,6 +27,15 @@ pub struct Share {
     pub key_ids: Vec<KeyId>,
 }
 
+/// A signer that has answered the current message, and when.
+#[derive(Clone, Copy, Debug, PartialEq, Eq, Hash)]
+pub struct Arrival {
+    /// Who answered.
+    pub signer: SignerId,
+    /// The clock reading of the call that recorded its response.
+    pub clock: u64,
+}
+
 /// Whole entries of four bytes.
 fn numbers(bytes: &[u8]) -> Option<Vec<u32>> {
     let whole = bytes.chunks_exact(NUMBER);
@@ -38,6 +48,22 @@ pub(crate) fn key_ids(bytes: &[u8]) -> Option<Vec<KeyId>> {
 
 pub(crate) fn signer_ids(bytes: &[u8]) -> Option<Vec<SignerId>> {
     Some(numbers(bytes)?.into_iter().map(SignerId).collect())
+}
+
+/// Whole entries of eight bytes.
+fn clocks(bytes: &[u8]) -> Option<Vec<u64>> {
+    let whole = bytes.chunks_exact(CLOCK);
+    if !whole.remainder().is_empty() {
+        return None;
+    }
+    whole.map(|n| Some(u64::from_le_bytes(*n.first_chunk()?))).collect()
+}
+
+/// Signers, and a reading for each of them.
+pub(crate) fn arrivals(signers: &[u8], readings: &[u8]) -> Option<Vec<Arrival>> {
+    let (signers, clocks) = (signer_ids(signers)?, clocks(readings)?);
+    let arrival = |(signer, clock)| Arrival { signer, clock };
+    (signers.len() == clocks.len()).then(|| signers.into_iter().zip(clocks).map(arrival).collect())
 }
 
 pub(crate) fn nonces(bytes: &[u8]) -> Option<Vec<Nonce>> {

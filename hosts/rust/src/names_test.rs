@@ -71,6 +71,7 @@ pub(crate) fn texts() -> Vec<(String, String)> {
         ("JOB", Outgoing::Job(job)),
         ("NONCE_TIMEOUT", Outgoing::NonceTimeout { waiters: vec![], malicious: vec![] }),
         ("INSUFFICIENT_SIGNERS", Outgoing::InsufficientSigners { malicious: vec![] }),
+        ("ARRIVALS", Outgoing::Arrivals(vec![])),
     ];
     let outgoing = outgoing.map(|(name, o)| (format!("rc_kind_text(RC_KIND_{name})"), o.to_string()));
     refusals.chain(kinds).chain(outgoing).collect()

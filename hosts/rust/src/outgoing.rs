@@ -1,9 +1,9 @@
-//! What a coordinator writes for its host alone: the job (kind 32) and the two results that have lists (33 and 34). The library's reader
+//! What a coordinator writes for its host alone: the job (kind 32) and the results that have lists (33 to 35). The library's reader
 //! does not take these kinds, so they are read here, by 01's layout.
 
 use crate::frame::{self, Frame};
 use crate::ids::{KeyId, RoundIds, SignerId};
-use crate::lists::{self, Nonce, Share};
+use crate::lists::{self, Arrival, Nonce, Share};
 use crate::refusal::Refusal;
 use crate::signature::SignatureType;
 use std::fmt;
@@ -25,7 +25,7 @@ pub struct Job {
     pub shares: Vec<Share>,
 }
 
-/// What a packet of kind 32, 33 or 34 says.
+/// What a packet of kind 32, 33, 34 or 35 says.
 #[derive(Clone, Debug, PartialEq, Eq)]
 pub enum Outgoing {
     /// Kind 32.
@@ -42,6 +42,8 @@ pub enum Outgoing {
         /// Who has been left out so far.
         malicious: Vec<SignerId>,
     },
+    /// Kind 35: who has answered the current message, and when.
+    Arrivals(Vec<Arrival>),
 }
 
 impl Outgoing {
@@ -77,6 +79,7 @@ impl Outgoing {
                 malicious: lists::signer_ids(malicious)?,
             }),
             (34, [malicious]) => Some(Outgoing::InsufficientSigners { malicious: lists::signer_ids(malicious)? }),
+            (35, [signers, clocks]) => Some(Outgoing::Arrivals(lists::arrivals(signers, clocks)?)),
             _ => None,
         }
     }
@@ -89,6 +92,7 @@ impl fmt::Display for Outgoing {
             Outgoing::Job(_) => "job",
             Outgoing::NonceTimeout { .. } => "nonce timeout",
             Outgoing::InsufficientSigners { .. } => "insufficient signers",
+            Outgoing::Arrivals(_) => "arrivals",
         })
     }
 }

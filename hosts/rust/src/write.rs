@@ -1,4 +1,4 @@
-//! Packets of a host's own, written by the library: kinds 1, 3, 5 to 7 and 32 to 34. A coordinator's calls write what it sends by
+//! Packets of a host's own, written by the library: kinds 1, 3, 5 to 7 and 32 to 35. A coordinator's calls write what it sends by
 //! themselves, and need none of this.
 //!
 //! Each function gives the packet, or is refused with 9 where a message or a list is over 01's limits. The questions that are asked of
@@ -17,10 +17,13 @@
 //! ```
 
 use crate::contents::NonceResponse;
-use crate::ffi::{self, RcHead, RcJobPlace, RcJobPlaces, RcPlace, RcResponse, RcResponses, RcSignerIds, RcWritten};
+use crate::ffi::{
+    self, RcArrival, RcArrivals, RcHead, RcJobPlace, RcJobPlaces, RcPlace, RcResponse, RcResponses, RcSignerIds,
+    RcWritten,
+};
 use crate::ids::{KeyId, RoundIds, SignerId};
 use crate::limits::ANSWER_LENGTH;
-use crate::lists::{key_bytes, nonce_bytes, share_front, Nonce, Share};
+use crate::lists::{key_bytes, nonce_bytes, share_front, Arrival, Nonce, Share};
 use crate::refusal::Refusal;
 use crate::signature::SignatureType;
 
@@ -170,6 +173,24 @@ pub fn nonce_timeout(waiters: &[SignerId], malicious: &[SignerId]) -> Result<Vec
 /// ```
 pub fn insufficient_signers(malicious: &[SignerId]) -> Result<Vec<u8>, Refusal> {
     written(|out| ffi::write_insufficient_signers(out, signer_ids(malicious)))
+}
+
+/// Kind 35: who has answered, and when. At most ten signers, in the order given. A coordinator's are ascending by signer.
+///
+/// ```
+/// use roundcabinet::{write, Arrival, Outgoing, Refusal, SignerId};
+/// let arrivals = [Arrival { signer: SignerId(1), clock: 103 }, Arrival { signer: SignerId(4), clock: 101 }];
+/// let packet = write::arrivals(&arrivals)?;
+/// assert_eq!(Outgoing::read(&packet)?, Outgoing::Arrivals(arrivals.to_vec()));
+/// assert_eq!(write::arrivals(&[arrivals[0]; 11]), Err(Refusal::Limit));
+/// # Ok::<(), Refusal>(())
+/// ```
+pub fn arrivals(arrivals: &[Arrival]) -> Result<Vec<u8>, Refusal> {
+    let mut given = RcArrivals { count: arrivals.len() as u64, ..Default::default() };
+    for (place, arrival) in given.arrivals.iter_mut().zip(arrivals) {
+        *place = RcArrival { signer_id: arrival.signer.0, reserved: 0, clock: arrival.clock };
+    }
+    written(|out| ffi::write_arrivals(out, given))
 }
 
 /// What a writer leaves in a buffer that is long enough for any packet.

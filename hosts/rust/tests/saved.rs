@@ -87,6 +87,7 @@ fn saved_and_loaded_between_all_calls() {
         saved = Coordinator::load(saved.state().to_vec(), saved.store().to_vec());
         assert_eq!(saved.check(), Ok(()), "{name}");
         assert_eq!(call(&mut saved), answer, "{name}");
+        assert_eq!(saved.arrivals(), never_saved.arrivals(), "{name}");
         assert_eq!(saved.state(), never_saved.state(), "{name}");
         assert!(saved.store() == never_saved.store(), "{name}");
         met.insert(sort_of(&answer));
@@ -129,10 +130,12 @@ fn bytes_that_no_call_left_are_refused_and_stay() {
         assert_eq!(c.check(), Err(Refusal::State));
         assert_eq!(c.process_timeout(100), Err(Refusal::State));
         assert_eq!(c.take_results(1, &[]), Err(Refusal::State));
+        assert_eq!(c.arrivals(), Err(Refusal::State));
         assert_eq!((c.state(), c.store()), (&bytes[..], &store[..]));
     }
     let mut c = Coordinator::load(state, &store[1..]);
     assert_eq!(c.check(), Err(Refusal::State), "a short store");
+    assert_eq!(c.arrivals(), Err(Refusal::State), "a short store");
 }
 
 #[test]

@@ -9,13 +9,15 @@ fn config() -> Config {
     worked().sign_threshold(4).signer(Signer::without_keys(SignerId(3))).signer(with_keys(4, &[]))
 }
 
-/// Who has answered, as a nonce timeout tells it.
+/// Who has answered, as a nonce timeout tells it. The query names the same.
 fn answered(c: &mut Coordinator) -> Vec<SignerId> {
-    match c.process_timeout(111) {
+    let told = match c.process_timeout(111) {
         Ok(Answer::NonceTimeout { waiters, malicious }) if malicious.is_empty() => waiters,
         Err(Refusal::NoRecord) => vec![],
         other => panic!("{other:?}"),
-    }
+    };
+    assert_eq!(c.arrivals().unwrap().iter().map(|arrival| arrival.signer).collect::<Vec<_>>(), told);
+    told
 }
 
 /// State and store, as a host would save them.

@@ -189,6 +189,21 @@ fn lists_of_no_signers_to_ten() {
 }
 
 #[test]
+fn no_arrivals_to_ten() {
+    let clock = |i: u32| u64::MAX - u64::from(i) * 0x0102_0304_0506_0708;
+    let all: Vec<Arrival> = (0..10).map(|i| Arrival { signer: SignerId(u32::MAX - i), clock: clock(i) }).collect();
+    for count in 0..=10 {
+        let packet = write::arrivals(&all[..count]).unwrap();
+        assert_eq!(packet.len(), 48 + 12 * count);
+        assert_eq!(Outgoing::read(&packet), Ok(Outgoing::Arrivals(all[..count].to_vec())));
+    }
+    let mut short = write::arrivals(&all[..2]).unwrap();
+    (short[36], short[40]) = (4, 52); // one signer, and readings of 20 bytes
+    short[44] = 20;
+    assert_eq!(Outgoing::read(&short), Err(Refusal::Layout));
+}
+
+#[test]
 fn one_past_each_limit_is_refused_with_9() {
     let (long, eleven) = ([7; 257], vec![SignerId(1); 11]);
     assert_eq!(write::nonce_request(head(&long)), Err(Refusal::Limit));
@@ -197,6 +212,7 @@ fn one_past_each_limit_is_refused_with_9() {
     assert_eq!(write::nonce_timeout(&eleven, &[]), Err(Refusal::Limit));
     assert_eq!(write::nonce_timeout(&[], &eleven), Err(Refusal::Limit));
     assert_eq!(write::insufficient_signers(&eleven), Err(Refusal::Limit));
+    assert_eq!(write::arrivals(&[Arrival { signer: SignerId(1), clock: 7 }; 11]), Err(Refusal::Limit));
 
     let nested = |response: NonceResponse, count| write::share_request(head(b"pay"), &vec![response; count]).map(drop);
     assert_eq!(nested(response(1, 16, 16), 10), Ok(()));

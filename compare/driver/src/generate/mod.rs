@@ -120,6 +120,7 @@ impl<'a> Generator<'a> {
             self.any_call()?;
         }
         self.reached.responses(self.both.responses.counts);
+        self.reached.arrivals(self.both.arrivals.named);
         Ok(())
     }
 

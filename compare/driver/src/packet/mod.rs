@@ -4,7 +4,7 @@ mod read;
 mod write;
 
 pub use read::{decode, fits, laid_out, parts, response_fits, u32_at, u64_at};
-pub use write::{encode, insufficient_signers, job, nonce_timeout, JobIds};
+pub use write::{arrivals, encode, insufficient_signers, job, nonce_timeout, JobIds};
 
 pub const MESSAGE_LIMIT: usize = 256;
 pub const LIST_LIMIT: usize = 16;

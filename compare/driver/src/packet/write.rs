@@ -207,3 +207,13 @@ pub fn insufficient_signers(malicious_signer_ids: &[u32]) -> Vec<u8> {
     w.end_part();
     w.out
 }
+
+/// Kind 35, of signers with their readings.
+pub fn arrivals(came: &[(u32, u64)]) -> Vec<u8> {
+    let mut w = Writer::new(Head { kind: 35, ..Head::default() }, 2, 12 * came.len());
+    w.ids(&came.iter().map(|(id, _)| *id).collect::<Vec<u32>>());
+    w.end_part();
+    came.iter().for_each(|(_, now)| w.out.extend_from_slice(&now.to_le_bytes()));
+    w.end_part();
+    w.out
+}

@@ -13,11 +13,11 @@ use crate::{
     clock,
     mark::{all_shared, has_twice, key_ids},
     packet,
-    states::{IDLE, NONCE_GATHER, SIG_SHARE_GATHER},
+    states::{self, IDLE, NONCE_GATHER, SIG_SHARE_GATHER},
 };
 
 /// A run of some hundred thousand calls should reach each of them.
-pub const NAMES: [&str; 62] = [
+pub const NAMES: [&str; 68] = [
     "a job with the mark",
     "a job without the mark: shares are missing, no key id twice",
     "a job without the mark: a key id twice, all shares held",
@@ -71,6 +71,12 @@ pub const NAMES: [&str; 62] = [
     "response to the empty message recorded",
     "response without a nonce recorded",
     "four messages recorded",
+    "response recorded at a reading before the request's",
+    "response recorded after the timeout, by process_message",
+    "arrivals of ten signers",
+    "arrivals of nobody, while another message has been answered",
+    "arrivals of another message, after 11",
+    "arrivals in Idle",
     "shares, no record for the current message",
     "shares of a signer that is not waited for",
     "a waiter's shares are held already",
@@ -155,6 +161,7 @@ impl Corners {
         let records = s.after.message_nonces.values();
         let moved = records.flat_map(|i| i.public_nonces.values()).any(other);
         self.corner(moved, "records in Idle that are under another dkg id than the current one");
+        self.arrivals(s);
         match &s.step.call {
             Call::Start { sign_id, .. } => self.start(s, sign_id.is_none()),
             Call::Process(i) => {
@@ -171,6 +178,20 @@ impl Corners {
             Call::ProcessTimeout => self.timeout(s, false),
             _ => {}
         }
+    }
+
+    /// What the query after the call was about.
+    fn arrivals(&mut self, s: &Seen) {
+        let records = &s.after.message_nonces;
+        let Some(info) = records.get(&s.after.message) else {
+            let name = "arrivals of nobody, while another message has been answered";
+            return self.corner(!records.is_empty(), name);
+        };
+        self.corner(info.public_nonces.len() == 10, "arrivals of ten signers");
+        let other = s.refusal() == 11 && s.before.message != s.after.message;
+        self.corner(other, "arrivals of another message, after 11");
+        let state = states::from_rust(&s.after.state).0;
+        self.corner(state == IDLE, "arrivals in Idle");
     }
 
     fn mark(&mut self, s: &Seen, job: &[u8]) {
@@ -329,6 +350,8 @@ impl Corners {
         self.corner(m.message.is_empty(), "response to the empty message recorded");
         self.corner(m.nonces.is_empty(), "response without a nonce recorded");
         self.corner(s.after.message_nonces.len() == 4, "four messages recorded");
+        self.corner(s.went_back(), "response recorded at a reading before the request's");
+        self.corner(s.fired(), "response recorded after the timeout, by process_message");
     }
 
     fn shares(&mut self, s: &Seen, m: &SignatureShareResponse) {

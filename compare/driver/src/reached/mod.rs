@@ -43,6 +43,8 @@ pub struct Reached {
     pub corners: Corners,
     largest_in: usize,
     responses: Counts,
+    /// Queries of arrivals that named somebody.
+    arrivals: u64,
 }
 
 fn call_number(c: &Call) -> usize {
@@ -70,6 +72,11 @@ impl Reached {
         let sum = &mut self.responses;
         sum.written.iter_mut().zip(counts.written).for_each(|(sum, n)| *sum += n);
         sum.refused += counts.refused;
+    }
+
+    /// Of a whole sequence.
+    pub fn arrivals(&mut self, named: u64) {
+        self.arrivals += named;
     }
 
     pub fn step(&mut self, fire: &Fire, step: &Step, answer: &Answer) {
@@ -151,6 +158,8 @@ impl Reached {
         row("written by the library too: kind 4", shares);
         row("refused 26 by its writers: a byte less lent to each", nonces + shares);
         row("refused 9 by its writers: kinds 2 and 4 over a limit", refused);
+        row("queries of arrivals: after each call", self.calls());
+        row("queries of arrivals that named somebody", self.arrivals);
         for (name, n) in probes::NAMES.iter().zip(self.probes).skip(1) {
             row(&format!("probe: {name}"), n);
         }
@@ -170,7 +179,7 @@ impl Reached {
             println!("| refused {number}, outside the domain: by the library alone | {n} |");
         }
         let jobs = self.written.get(&32).map_or(0, |w| w.0);
-        println!("| refused 5, outside the domain: twice with each job | {} |", 2 * jobs);
+        println!("| refused 5, outside the domain: three times with each job | {} |", 3 * jobs);
         println!("| refused 6, outside the domain: after each call | {} |", self.calls());
     }
 }

@@ -36,6 +36,9 @@ flag-requires c κs = tt
 aggregated-requires : tie.Need-aggregated-requires
 aggregated-requires c κs = tt
 
+tell-arrivals-requires : tie.Need-tell-arrivals-requires
+tell-arrivals-requires c κs = tt
+
 reset-requires : tie.Need-reset-requires
 reset-requires c κs = tt
 
@@ -108,8 +111,17 @@ returns-9 c = tt
 same-length-14 : tie.Need-same-length-14
 same-length-14 c = search needs
 
+same-length-15 : tie.Need-same-length-15
+same-length-15 c = search needs
+
 returns-10 : tie.Need-returns-10
 returns-10 c = tt
+
+same-length-16 : tie.Need-same-length-16
+same-length-16 c = search needs
+
+returns-11 : tie.Need-returns-11
+returns-11 c = tt
 
 pub call-spec : {M : Type 1} → statement M
 call-spec =
@@ -126,6 +138,7 @@ call-spec =
     process-timeout-requires
     flag-requires
     aggregated-requires
+    tell-arrivals-requires
     reset-requires
     same-length
     returns
@@ -150,4 +163,7 @@ call-spec =
     same-length-13
     returns-9
     same-length-14
-    returns-10)
+    same-length-15
+    returns-10
+    same-length-16
+    returns-11)

@@ -39,12 +39,20 @@ response message keys nonces =
       nonces = replicate nonces (record { D = []; E = [] });
     }
 
+abbrev recordOf : ℕ → List NonceResponse → ℕ → ℕ → SignRoundInfo
+recordOf message qs arrivals waiters =
+    record {
+      message = replicate message 1;
+      public-nonces = qs;
+      arrivals = replicate arrivals (record { signer-id = 1; clock = 1 });
+      sign-wait-signer-ids = replicate waiters 1;
+    }
+
 abbrev recordWith : ℕ → List NonceResponse → ℕ → SignRoundInfo
-recordWith message qs waiters =
-    record { message = replicate message 1; public-nonces = qs; sign-wait-signer-ids = replicate waiters 1 }
+recordWith message qs waiters = recordOf message qs 0 waiters
 
 abbrev fullRecord : SignRoundInfo
-fullRecord = recordWith 256 (replicate 10 (response 256 16 16)) 10
+fullRecord = recordOf 256 (replicate 10 (response 256 16 16)) 10 10
 
 abbrev sharesOf : List SignatureShare → SignerShares
 sharesOf ss = record { signer-id = 0; signature-shares = ss }
@@ -83,6 +91,7 @@ atLimits =
     ∷ counted (withShares (replicate 11 fullShares) full) false
     ∷ recording (recordWith 257 [] 0)
     ∷ recording (recordWith 0 (replicate 11 (response 0 0 0)) 0)
+    ∷ recording (recordOf 0 [] 11 0)
     ∷ recording (recordWith 0 [] 11)
     ∷ recording (recordWith 0 (response 257 0 0 ∷ []) 0)
     ∷ recording (recordWith 0 (response 0 17 0 ∷ []) 0)

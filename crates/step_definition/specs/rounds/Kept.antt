@@ -10,7 +10,7 @@ use lib.ListN.{replicate}
 use Rattle.layout.specs.Limits.{storeLength, answerLength}
 use Rattle.layout.specs.declared.Ids.{Ids}
 use Rattle.layout.specs.declared.SignatureType.the-variants.{Frost, Schnorr, Taproot, TaprootRoot}
-use Rattle.layout.specs.Messages.{NonceResponse}
+use Rattle.layout.specs.Messages.{NonceResponse, Arrival}
 use Rattle.layout.specs.Messages.{nonceRequest, nonceResponse, signatureShareRequest, dkgBegin, dkgSigner, dkgCoordinator}
 use Rattle.layout.specs.Encode.{encode}
 use Rattle.state_table.specs.declared.State.{State}
@@ -75,8 +75,17 @@ progress message records shares nonce sign =
       clocks = record { nonce-start = nonce; sign-start = sign };
     }
 
+abbrev answeredAt : List ℕ → List NonceResponse → List Arrival → List ℕ → SignRoundInfo
+answeredAt message qs arrivals waiters =
+    record { message = message; public-nonces = qs; arrivals = arrivals; sign-wait-signer-ids = waiters }
+
+-- the signer's response came at this reading
+abbrev came : ℕ → ℕ → Arrival
+came id clock = record { signer-id = id; clock = clock }
+
+-- a record of before: each response came at 7
 abbrev answered : List ℕ → List NonceResponse → List ℕ → SignRoundInfo
-answered message qs waiters = record { message = message; public-nonces = qs; sign-wait-signer-ids = waiters }
+answered message qs waiters = answeredAt message qs (map (λ (q : NonceResponse). came (q .signer-id) 7) qs) waiters
 
 abbrev both : List ℕ → SignRoundInfo
 both waiters = answered nine (q0 ∷ q1 ∷ []) waiters
@@ -245,7 +254,7 @@ idleUnheld =
     (sends 0 (nonceRequest (request (idsOf 1 6 4) five Schnorr [])) ⇒ refuses 10 ∷ [])
     (held s (idsOf 1 5 3) idle (halfway []) false)
 
--- "10 in NonceGather, the record made and the message"
+-- "10 in NonceGather, the record made and the message": the record keeps the call's clock reading, and the one before it its own (02, e)
 abbrev pub gatheringUnheld : From
 gatheringUnheld =
     let s = standingOf (apart three) (0 ∷ 1 ∷ []) true false (2 ∷ []) in
@@ -254,7 +263,11 @@ gatheringUnheld =
     (held s
     (ids 1)
     nonces
-    (progress five (answered five (to five q0 ∷ to five q1 ∷ []) (0 ∷ 1 ∷ []) ∷ []) (shared0 ∷ []) (some 2) (some 1))
+    (progress five
+    (answeredAt five (to five q0 ∷ to five q1 ∷ []) (came 0 7 ∷ came 1 9 ∷ []) (0 ∷ 1 ∷ []) ∷ [])
+    (shared0 ∷ [])
+    (some 2)
+    (some 1))
     false)
 
 -- "11, message and sign id"
@@ -471,17 +484,28 @@ recordedWhole =
     let h : List SignRoundInfo → Held = λ records.
     held (standing (1 ∷ [])) (idsOf 3 4 5) nonces (progress nine records (shared1 ∷ []) (some 2) (some 3)) false in
     from (h (answered nine (q0 ∷ []) (0 ∷ []) ∷ []))
-    (answers 9 q ⇒ recordedOf 2 ∷ answers 9 (to five q) ⇒ recordedOf 2 ∷ [])
-    (h (answered nine (q0 ∷ q ∷ []) (0 ∷ 2 ∷ []) ∷ answered five (to five q ∷ []) (2 ∷ []) ∷ []))
+    (answers 9 q ⇒ recordedOf 2 ∷ answers 8 (to five q) ⇒ recordedOf 2 ∷ [])
+    (h
+    (answeredAt nine (q0 ∷ q ∷ []) (came 0 7 ∷ came 2 9 ∷ []) (0 ∷ 2 ∷ [])
+    ∷ answeredAt five (to five q ∷ []) (came 2 8 ∷ []) (2 ∷ [])
+    ∷ []))
 
--- a share request empties the shares and starts its clock; the records and the clock of the nonces stay
+-- a share request empties the shares and starts its clock; the records, their readings and the clock of the nonces stay
 abbrev pub sharesRequested : From
 sharesRequested =
     let other5 = answered five (to five q0 ∷ []) (0 ∷ []) in
     let only1 = answered nine (q1 ∷ []) (1 ∷ []) in
     from (held (standing (2 ∷ [])) (ids 1) nonces (progress nine (other5 ∷ only1 ∷ []) (shared1 ∷ []) (some 2) (some 1)) false)
     (answers 9 q0 ⇒ sharesAsked 0 (shares9 (q0 ∷ q1 ∷ [])) ∷ [])
-    (held (standing (2 ∷ [])) (ids 1) sharing (progress nine (other5 ∷ both (0 ∷ 1 ∷ []) ∷ []) [] (some 2) (some 9)) false)
+    (held (standing (2 ∷ []))
+    (ids 1)
+    sharing
+    (progress nine
+    (other5 ∷ answeredAt nine (q0 ∷ q1 ∷ []) (came 0 9 ∷ came 1 7 ∷ []) (0 ∷ 1 ∷ []) ∷ [])
+    []
+    (some 2)
+    (some 9))
+    false)
 
 -- shares are kept in their place by signer, whoever comes first
 abbrev pub sharesInPlace : From

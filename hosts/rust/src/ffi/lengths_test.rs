@@ -30,8 +30,12 @@ fn taken(a: RcAnswer) {
     assert_eq!(a, RcAnswer { class_: NOTHING, ..RcAnswer::default() });
 }
 
+fn arrivals(b: &mut Buffers) -> RcAnswer {
+    tell_arrivals(&b.state, &b.store, &mut b.out)
+}
+
 /// Each call that writes to the answer buffer.
-fn writing_calls(b: &mut Buffers) -> [RcAnswer; 4] {
+fn writing_calls(b: &mut Buffers) -> [RcAnswer; 5] {
     let idle_request = {
         let mut packet = [0; 48];
         (packet[0], packet[2], packet[16], packet[32], packet[40]) = (1, 2, 9, 48, 48);
@@ -39,6 +43,7 @@ fn writing_calls(b: &mut Buffers) -> [RcAnswer; 4] {
     };
     [
         process_timeout(b, 100),
+        arrivals(b),
         process(b, 100, true, &idle_request),
         process_message(b, 100, true, &idle_request),
         start_signing_round(b, &START),
@@ -54,6 +59,8 @@ fn an_answer_buffer_of_19_232_and_one_byte_less() {
     assert!(b.out.iter().all(|byte| *byte == FILLED), "a refusal writes nothing");
 
     let mut b = ready(STATE_LENGTH, STORE_LENGTH, 19_232);
+    assert_eq!(arrivals(&mut b), RcAnswer { class_: RESULT, length: 48, ..RcAnswer::default() });
+    assert!(b.out[48..].iter().all(|byte| *byte == FILLED), "nothing is written past the lists");
     let a = start_signing_round(&mut b, &START);
     assert_eq!(a, RcAnswer { class_: PACKET, length: 49, ..RcAnswer::default() });
     assert!(b.out[49..].iter().all(|byte| *byte == FILLED), "nothing is written past the packet");
@@ -88,6 +95,7 @@ fn a_state_of_one_byte_less_is_refused_by_commissioning_too() {
     refused(commission(&mut b, Config::new(0, 0, 0).plain()), 4);
     refused(set_coordinator_key(&mut b, true), 4);
     refused(take_results(&mut b, 7, &[]), 4);
+    refused(arrivals(&mut b), 4);
     refused(aggregated(&mut b, true), 4);
     assert_eq!(b.state, before);
 }
@@ -96,6 +104,7 @@ fn a_state_of_one_byte_less_is_refused_by_commissioning_too() {
 fn longer_buffers_are_taken_and_left_alone_but_for_commissioning() {
     let mut b = ready(STATE_LENGTH + 1, STORE_LENGTH + 1, ANSWER_LENGTH + 1);
     assert_eq!(start_signing_round(&mut b, &START).class_, PACKET);
+    assert_eq!(arrivals(&mut b), RcAnswer { class_: RESULT, length: 48, ..RcAnswer::default() });
     assert_eq!((b.state[STATE_LENGTH], b.store[STORE_LENGTH], b.out[ANSWER_LENGTH]), (FILLED, FILLED, FILLED));
     taken(commission(&mut b, Config::new(0, 0, 0).plain()));
     assert_eq!((b.state[STATE_LENGTH], b.store[STORE_LENGTH]), (FILLED, 0));

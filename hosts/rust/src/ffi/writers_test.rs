@@ -22,9 +22,11 @@ fn signers(list: RcPlace) -> RcJobPlaces {
 
 const ONE: RcPlace = RcPlace { at: 0, count: 1 };
 const IDS: RcSignerIds = RcSignerIds { ids: [5; 10], count: 2 };
+const CAME: RcArrival = RcArrival { signer_id: 5, reserved: 0xaaaa_aaaa, clock: 0x1817_1615_1413_1211 };
+const ARRIVALS: RcArrivals = RcArrivals { arrivals: [CAME; 10], count: 2 };
 
 /// Those that have a type come first.
-const WRITERS: [fn(&mut [u8], RcHead) -> RcWritten; 8] = [
+const WRITERS: [fn(&mut [u8], RcHead) -> RcWritten; 9] = [
     |out, head| write_nonce_request(out, head, b"pay"),
     |out, head| write_signature_share_request(out, head, b"pay", &SOURCE, responses(ONE)),
     |out, head| write_job(out, head, b"pay", &SOURCE, signers(ONE)),
@@ -33,6 +35,7 @@ const WRITERS: [fn(&mut [u8], RcHead) -> RcWritten; 8] = [
     |out, _| write_dkg_coordinator(out, 7),
     |out, _| write_nonce_timeout(out, IDS, IDS),
     |out, _| write_insufficient_signers(out, IDS),
+    |out, _| write_arrivals(out, ARRIVALS),
 ];
 
 fn refused(w: RcWritten, number: u32) {
@@ -61,13 +64,26 @@ fn a_type_of_4_is_refused_with_8_before_all() {
 #[test]
 fn nothing_past_the_packet_is_written_and_reserved_bytes_are_not_looked_at() {
     let lengths = [32 + 16 + 3 + 32, 32 + 24 + 3 + 32 + 56 + 1 + 4 + 66, 32 + 40 + 3 + 32 + 4 + 66 + 36];
-    for (write, length) in WRITERS.iter().zip(lengths.into_iter().chain([32, 32, 32, 32 + 16 + 16, 32 + 8 + 8])) {
+    let untyped = [32, 32, 32, 32 + 16 + 16, 32 + 8 + 8, 32 + 16 + 24];
+    for (write, length) in WRITERS.iter().zip(lengths.into_iter().chain(untyped)) {
         let (mut out, mut again) = (vec![FILLED; ANSWER_LENGTH + 1], vec![0; ANSWER_LENGTH]);
         assert_eq!(write(&mut out, HEAD), RcWritten { length: length as u64, ..Default::default() });
         assert!(out[length..].iter().all(|byte| *byte == FILLED));
         write(&mut again, RcHead { reserved: [0; 7], ..HEAD });
         assert_eq!(again[..length], out[..length]);
     }
+}
+
+#[test]
+fn an_arrivals_reserved_number_is_not_looked_at_and_eleven_are_refused_with_9() {
+    let (mut out, mut again) = (vec![FILLED; ANSWER_LENGTH], vec![FILLED; ANSWER_LENGTH]);
+    refused(write_arrivals(&mut out, RcArrivals { count: 11, ..ARRIVALS }), 9);
+    refused(write_arrivals(&mut out, RcArrivals { count: u64::MAX, ..ARRIVALS }), 9);
+    assert_eq!(out, again, "a refusal writes nothing");
+    assert_eq!(write_arrivals(&mut out, ARRIVALS).length, 72);
+    let plain = RcArrivals { arrivals: [RcArrival { reserved: 0, ..CAME }; 10], ..ARRIVALS };
+    assert_eq!(write_arrivals(&mut again, plain).length, 72);
+    assert_eq!(again, out);
 }
 
 #[test]

@@ -10,14 +10,14 @@ use Rattle.nonce_gather.proofs.gather.put_on_record.Tie as tie
 add-requires : tie.Need-add-requires
 add-requires c κs =
     let start = c .before .before .before .before .before .before .before in
-    placed (start .pre .0) _ _ _ _ (shape _ _ (start .good .0)) (start .pre .1)
+    placed (start .pre .0) (start .args .clock) _ _ _ _ (shape _ _ (start .good .0)) (start .pre .1)
 
 on-record-requires : tie.Need-on-record-requires
 on-record-requires c κs =
     let after-add = c .before .before .before .before in
     let start = after-add .before .before .before .before .before .before .before .before in
     rw (after-add .add .ensures .0, after-add .add .ensures .1)
-    (recorded (start .pre .0) _ _ _ _ (shape _ _ (start .good .0)) (start .pre .1))
+    (recorded (start .pre .0) (start .args .clock) _ _ _ _ (shape _ _ (start .good .0)) (start .pre .1))
 
 same-length : tie.Need-same-length
 same-length c = search needs

@@ -42,8 +42,8 @@ mul-slot c = omega arith
 element-set-from-slot : tie.Need-element-set-from-slot
 element-set-from-slot c = omega arith
 
-mul-t24 : tie.Need-mul-t24
-mul-t24 c = omega arith
+mul-t25 : tie.Need-mul-t25
+mul-t25 c = omega arith
 
 element-set-from-after : tie.Need-element-set-from-after
 element-set-from-after c = omega arith
@@ -58,7 +58,7 @@ returns c =
     let after-open = after-copy .before .before .before .before in
     let start = after-open .before .before .before .before .before .before in
     let a = start .args in
-    add-done (a .records) _ _ _ _ (a .r) (a .i) _ (after-open .«open» .ensures .0) (after-open .«open» .ensures .1)
+    add-done (a .records) _ _ _ _ (a .clock) (a .r) (a .i) _ (after-open .«open» .ensures .0) (after-open .«open» .ensures .1)
     (after-copy .copy .ensures) (after-copy2 .copy2 .ensures) (omega arith) (omega arith)
 
 pub add-spec : {M : Type 1} → statement M
@@ -77,7 +77,7 @@ add-spec =
     element-copy-out-row
     mul-slot
     element-set-from-slot
-    mul-t24
+    mul-t25
     element-set-from-after
     same-length
     returns)

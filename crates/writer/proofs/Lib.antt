@@ -1,0 +1,3 @@
+-- Laws of lists of numbers, as they are written.
+-- Assumes nothing.
+pub mod Numbers
