@@ -16,7 +16,7 @@ use Rattle.body.specs.Body.{root_of}
 
 -- the array's length, from what the struct's value is known to be
 pub root_32 : (h : RequestHead) (vs : List Val) → Is Head.the_row h vs → length h.root ≡ 32
-root_32 h vs g = rw length-map at g.1.1.1.1.0.1.0.1
+root_32 h vs g = g.1.1.1.1.0.1.0.1
 
 -- a root of an array of 32
 pub root-whole : (h : RequestHead) → length h.root ≡ 32 → length (root_of h) ≡ root_length (type_number h.signature_type)

@@ -1,5 +1,7 @@
 // What kinds 1, 3 and 32 share: the ids and the signature type, and the body, which is the message, then the root. It serves the crates
 // requests and job; a host names its type and calls none of its functions.
+#![tactic(auto)]
+
 ghost use Rattle.std.specs.Prelude.{◌≡◌, ◌++◌, ◌≤◌, length, take};
 ghost use Rattle.wire.specs.Bytes.{put};
 ghost use Rattle.layout.specs.Limits.{message_limit};
@@ -8,7 +10,7 @@ ghost use Rattle.body.specs.Body.{root_of};
 use layout::{Ids, SignatureType};
 
 // What kinds 1, 3 and 32 say besides their message and lists. The root counts for TaprootRoot alone.
-#[derive(Drop)]
+#[derive(Clone, Copy)]
 pub struct RequestHead {
     pub ids: Ids,
     pub signature_type: SignatureType,

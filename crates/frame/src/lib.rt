@@ -1,4 +1,6 @@
 // The frame of a packet, read: its header, its pairs, and the part that a pair names. Each is defined for every slice.
+#![tactic(auto)]
+
 ghost use Rattle.std.specs.Prelude.{◌≡◌, ◌+◌, ◌*◌};
 ghost use Rattle.layout.specs.LaidOut.{header_in, part_at, tiles, dkg_only, headed, framed};
 

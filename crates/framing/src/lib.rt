@@ -1,4 +1,6 @@
 // The frame of a packet, written: the header and a pair. Nothing is written past the buffer's end.
+#![tactic(auto)]
+
 ghost use Rattle.std.specs.Prelude.{◌≡◌, ◌++◌, ◌+◌};
 ghost use Rattle.wire.specs.Bytes.{le, put};
 ghost use Rattle.layout.specs.Encode.{header_bytes};
@@ -6,14 +8,14 @@ ghost use Rattle.layout.specs.Encode.{header_bytes};
 use layout::Header;
 
 // A writer's answer: the packet's length, or 01's number.
-#[derive(Drop)]
+#[derive(Clone, Copy)]
 pub enum Written {
     Bytes(usize),
     Refused(u8),
 }
 
 // The kind 2 writer is lent a part: whether the packet fitted there, with its length.
-#[derive(Drop)]
+#[derive(Clone, Copy)]
 pub enum Room {
     Whole(usize),
     Short,

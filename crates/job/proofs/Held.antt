@@ -13,7 +13,7 @@ use mir.Val.{Val}
 use denote.Laws.{Is}
 use denote.Shadow.{shadow}
 use denote.Array.{each}
-use denote.Struct.Field.{u8-field}
+use denote.Builtin.{u8}
 use borrow.Author.Tests.{leb-true}
 use Rattle.wire.specs.Bytes.{Bytes, joined, every}
 use Rattle.wire.proofs.Lists.{and_left, and_right}
@@ -30,12 +30,12 @@ use Rattle.job.specs.Job.{key_counts, share_keys_of, job_holds, signers_in, jobs
 
 -- the arrays' lengths and bytes, from what a struct's value is known to be
 pub jobs_10 : (ps : JobPlaces) (vs : List Val) → Is All.the_row ps vs → length ps.places ≡ 10
-jobs_10 ps vs g = rw length-map at g.1.1.0.1.0.1
+jobs_10 ps vs g = g.1.1.0.1.0.1
 
 pub counts_16 : (p : JobPlace) (vs : List Val) → Is One.the_row p vs → length p.share_key_counts ≡ 16
-counts_16 p vs g = rw length-map at g.1.1.1.1.1.1.0.1.0.1
+counts_16 p vs g = g.1.1.1.1.1.1.0.1.0.1
 
-each-byte : (ns : List ℕ) (us : List Val) → shadow (each ℕ u8-field.row.own_val (map u8-field.into ns) us) → Bytes ns
+each-byte : (ns : List ℕ) (us : List Val) → shadow (each u8.Denot u8.own_val ns us) → Bytes ns
 each-byte [] us g i = omega arith
 each-byte (n ∷ ns) [] g i = absurd g
 each-byte (n ∷ ns) (u ∷ us) g zero = g.0.1
@@ -45,7 +45,7 @@ pub counts-bytes : (p : JobPlace) (vs : List Val) → Is One.the_row p vs → By
 counts-bytes p vs g = each-byte p.share_key_counts _ g.1.1.1.1.1.1.0.1.1
 
 each_16 :
-    (qs : List JobPlace) (us : List Val) → shadow (each (One.the_field).row.Denot (One.the_field).row.own_val (map (One.the_type).to qs) us)
+    (qs : List JobPlace) (us : List Val) → shadow (each (One.the_row).Denot (One.the_row).own_val qs us)
     → (i : ℕ) (d : JobPlace) → i < length qs → length (get_or qs i d).share_key_counts ≡ 16
 each_16 [] us g i d l = let z : ⊥ = omega arith in absurd z
 each_16 (q ∷ qs) [] g i d l = absurd g

@@ -1,5 +1,7 @@
 // The job writer: kind 32, what the aggregator is given when the last waiter's shares are recorded. Each signer's lists lie in a
 // source that the caller lends (the coordinator's store); the caller gives the signers in ascending order.
+#![tactic(auto)]
+
 ghost use Rattle.std.specs.Prelude.{◌≡◌, true, [], ◌∷◌, ◌++◌, map, ◌+◌, ◌*◌, ◌≤◌, length, take, drop};
 ghost use Rattle.wire.specs.Bytes.{put, joined};
 ghost use Rattle.layout.specs.Limits.{message_limit, list_limit};
@@ -19,7 +21,7 @@ use pieces::places::Place;
 
 // Where a signer's lists lie: key ids (4 bytes each), nonces (66), shares (36: id and z_i), and the shares' key ids one after the
 // other, so many for each share.
-#[derive(Drop)]
+#[derive(Clone, Copy)]
 pub struct JobPlace {
     pub key_ids: Place,
     pub nonces: Place,
@@ -28,21 +30,21 @@ pub struct JobPlace {
     pub share_key_counts: [u8; layout::LIST_LIMIT],
 }
 
-#[derive(Drop)]
+#[derive(Clone, Copy)]
 pub struct JobPlaces {
     pub places: [JobPlace; layout::SIGNER_LIMIT],
     pub count: usize,
 }
 
 // A list that is joined over the signers.
-#[derive(Drop)]
+#[derive(Clone, Copy)]
 pub enum JobList {
     KeyIds,
     Nonces,
 }
 
 // The lengths of the joined lists, and the number of shares.
-#[derive(Drop)]
+#[derive(Clone, Copy)]
 pub struct Totals {
     pub keys: u32,
     pub nonces: u32,
@@ -50,7 +52,7 @@ pub struct Totals {
 }
 
 // A place for the next pair, and where its part begins.
-#[derive(Drop)]
+#[derive(Clone, Copy)]
 pub struct Cursor {
     pub pair: u32,
     pub at: u32,

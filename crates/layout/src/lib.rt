@@ -1,4 +1,6 @@
 // The types of 01's packet layout. The layout itself is in specs/: what a message is, how it is encoded and decoded.
+#![tactic(auto)]
+
 ghost use Rattle.std.specs.Prelude.{◌≡◌};
 ghost use Rattle.layout.specs.Types.{type_number, type_of, result_of, signer_kind, root_length};
 
@@ -35,14 +37,14 @@ pub const SCALAR_LENGTH: usize = 32;
 pub const SHARE_LENGTH: usize = 36;
 
 // A signer's number and a key's number are both u32; no lookup takes the other kind.
-#[derive(Drop)]
+#[derive(Clone, Copy)]
 pub struct SignerId(pub u32);
 
-#[derive(Drop)]
+#[derive(Clone, Copy)]
 pub struct KeyId(pub u32);
 
 // net.rs: SignatureType. The root of TaprootRoot lies beside it.
-#[derive(Drop)]
+#[derive(Clone, Copy)]
 pub enum SignatureType {
     Frost,
     Schnorr,
@@ -51,7 +53,7 @@ pub enum SignatureType {
 }
 
 // state_machine/mod.rs: the results of a finished signing round (OperationResult), without the signature that the host keeps.
-#[derive(Drop)]
+#[derive(Clone, Copy)]
 pub enum ResultKind {
     Sign,
     SignSchnorr,
@@ -59,7 +61,7 @@ pub enum ResultKind {
 }
 
 // The three numbers of a signing round.
-#[derive(Drop)]
+#[derive(Clone, Copy)]
 pub struct Ids {
     pub dkg_id: u64,
     pub sign_id: u64,
@@ -67,7 +69,7 @@ pub struct Ids {
 }
 
 // The first 32 bytes of a packet.
-#[derive(Drop)]
+#[derive(Clone, Copy)]
 pub struct Header {
     pub kind: u8,
     pub signature_type: u8,

@@ -11,14 +11,14 @@ ghost use Rattle.packet.specs.Reading.{reading, part_test};
 use layout::Header;
 
 // The reader's answer: the header of a packet that is taken, or 01's number.
-#[derive(Drop)]
+#[derive(Clone, Copy)]
 pub enum Reading {
     Packet(Header),
     Refused(u8),
 }
 
 // What is asked of each part of a list.
-#[derive(Drop)]
+#[derive(Clone, Copy)]
 pub enum PartTest {
     ResponseLaidOut,
     WholeShare,

@@ -8,7 +8,7 @@ use packet::reader;
 use packet::reader::Reading;
 
 // The pair count of a packet that is taken; of one that is refused, 8 or 9.
-#[derive(Drop)]
+#[derive(Clone, Copy)]
 pub struct PairCount {
     pub pairs: u16,
     pub refusal: u8,

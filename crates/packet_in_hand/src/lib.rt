@@ -1,5 +1,7 @@
 // 01's packet in hand: "its bytes with its pair count". Few thin functions over it: each takes it apart and hands on to a function over
 // plain parameters, and promises what that one promises. None asks anything: the fields may hold any slice and any count.
+#![tactic(auto)]
+
 ghost use Rattle.std.specs.Prelude.{◌≡◌, ◌+◌, ◌*◌};
 ghost use Rattle.layout.specs.LaidOut.{header_in, part_at};
 ghost use Rattle.parts.specs.Parts.{part_in, MessageOf, RootOf, KeyIdsOf, NoncesOf, NestedOf, ShareOf};
@@ -9,7 +11,7 @@ use layout::Header;
 
 pub mod counts;
 
-#[derive(Drop)]
+#[derive(Clone, Copy)]
 pub struct Packet<'a> {
     pub bytes: &'a [u8],
     pub pairs: u16,
@@ -17,7 +19,7 @@ pub struct Packet<'a> {
 
 // What reading gives. An enum holds no reference, so the number stands beside the packet: 8 or 9 where the reader refuses it, then
 // without pairs, else 0.
-#[derive(Drop)]
+#[derive(Clone, Copy)]
 pub struct Opened<'a> {
     pub packet: Packet<'a>,
     pub refusal: u8,

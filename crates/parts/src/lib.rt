@@ -1,5 +1,7 @@
 // The parts of a packet in hand, as slices of its bytes. Each contract gives the part's place for every slice, and says which list
 // of the message it is where the reader takes the packet.
+#![tactic(auto)]
+
 ghost use Rattle.std.specs.Prelude.{◌≡◌, ◌+◌, ◌*◌, take, drop};
 ghost use Rattle.wire.specs.Bytes.{number_at};
 ghost use Rattle.layout.specs.LaidOut.{part_at};

@@ -33,13 +33,13 @@ use Rattle.framing.proofs.Laws.{length-parts}
 
 -- the lengths of the arrays, from what a struct's value is known to be
 pub places_10 : (ps : ResponsePlaces) (vs : List Val) → Is Places.the_row ps vs → length ps.places ≡ 10
-places_10 ps vs g = rw length-map at g.1.1.0.1.0.1
+places_10 ps vs g = g.1.1.0.1.0.1
 
 pub signers_10 : (s : SignerIds) (vs : List Val) → Is Signers.the_row s vs → length s.ids ≡ 10
-signers_10 s vs g = rw length-map at g.1.1.0.1.0.1
+signers_10 s vs g = g.1.1.0.1.0.1
 
 pub arrivals_10 : (s : Arrivals) (vs : List Val) → Is Arriving.the_row s vs → length s.arrivals ≡ 10
-arrivals_10 s vs g = rw length-map at g.1.1.0.1.0.1
+arrivals_10 s vs g = g.1.1.0.1.0.1
 
 -- the live entries of an array, from i on
 pub drop-live :

@@ -5,13 +5,13 @@ ghost use Rattle.pieces.specs.Places.{holds, response_holds, responses_hold};
 
 use layout::{Ids, SignerId};
 
-#[derive(Drop)]
+#[derive(Clone, Copy)]
 pub struct Place {
     pub at: usize,
     pub count: usize,
 }
 
-#[derive(Drop)]
+#[derive(Clone, Copy)]
 pub struct ResponsePlace {
     pub ids: Ids,
     pub signer_id: SignerId,
@@ -20,26 +20,26 @@ pub struct ResponsePlace {
     pub nonces: Place,
 }
 
-#[derive(Drop)]
+#[derive(Clone, Copy)]
 pub struct ResponsePlaces {
     pub places: [ResponsePlace; layout::SIGNER_LIMIT],
     pub count: usize,
 }
 
-#[derive(Drop)]
+#[derive(Clone, Copy)]
 pub struct SignerIds {
     pub ids: [SignerId; layout::SIGNER_LIMIT],
     pub count: usize,
 }
 
 // A recorded nonce response's signer and the clock reading of its call (02, e).
-#[derive(Drop)]
+#[derive(Clone, Copy)]
 pub struct Arrival {
     pub signer_id: SignerId,
     pub clock: u64,
 }
 
-#[derive(Drop)]
+#[derive(Clone, Copy)]
 pub struct Arrivals {
     pub arrivals: [Arrival; layout::SIGNER_LIMIT],
     pub count: usize,

@@ -1,4 +1,6 @@
 // What the coordinator sends: the nonce request (kind 1) and the signature share request (kind 3).
+#![tactic(auto)]
+
 ghost use Rattle.std.specs.Prelude.{◌≡◌, true, [], ◌∷◌, ◌++◌, map, ◌+◌, ◌*◌, ◌≤◌, length};
 ghost use Rattle.wire.specs.Bytes.{put, joined};
 ghost use Rattle.layout.specs.Limits.{message_limit, signer_limit, answer_length};

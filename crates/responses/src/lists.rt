@@ -6,7 +6,7 @@ ghost use Rattle.layout.specs.Encode.{id_bytes};
 use layout::{Ids, SignerId};
 
 // Who responds, and to which request.
-#[derive(Drop)]
+#[derive(Clone, Copy)]
 pub struct ResponseHead {
     pub ids: Ids,
     pub signer_id: SignerId,

@@ -1,4 +1,6 @@
 // The table of states: fire.rs, `can_move_to`, over all fifteen states of coordinator/mod.rs, in its order.
+#![tactic(auto)]
+
 ghost use Rattle.std.specs.Prelude.{◌≡◌, ◌<◌};
 ghost use Rattle.state_table.specs.States.{state_number, type_in, same_type, types_agree, position};
 ghost use Rattle.state_table.specs.Moves.{can_move_to, allowed};
@@ -6,7 +8,7 @@ ghost use Rattle.state_table.specs.Moves.{can_move_to, allowed};
 use layout::SignatureType;
 
 // coordinator/mod.rs: State. A signing state carries its signature type; the root lies beside the state.
-#[derive(Drop)]
+#[derive(Clone, Copy)]
 pub enum State {
     Idle,
     DkgPublicDistribute,
@@ -26,7 +28,7 @@ pub enum State {
 }
 
 // The type that a state carries.
-#[derive(Drop)]
+#[derive(Clone, Copy)]
 pub enum StateType {
     Untyped,
     Typed(SignatureType),

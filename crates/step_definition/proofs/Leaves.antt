@@ -100,7 +100,7 @@ module _ (now : ℕ) where
   the_shares_late t root c j = search leaves
 
   unless-late :
-      {p : Phase} {o : Option Outcome} (c : Coordinator) (rest : Outcome) → c.job ≡ false → TimeoutCase now c p o → Leaf now rest
+      {p : Phase} (c : Coordinator) {o : Option Outcome} (rest : Outcome) → c.job ≡ false → TimeoutCase now c p o → Leaf now rest
       → Leaf now (given o (λ (o : Outcome). o) rest)
   unless-late c rest j on_time l = l
   unless-late c rest j nonces_late l = the_nonces_late c

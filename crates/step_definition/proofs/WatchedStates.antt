@@ -13,12 +13,12 @@ use Rattle.layout.specs.Messages.{NonceRequest, NonceResponse, SignatureShareRes
 use Rattle.step_definition.specs.Lists.{is_some, given, first}
 use Rattle.step_definition.specs.Ids.{remove}
 use Rattle.step_definition.specs.Coordinator.{Coordinator, commissioned, add_response, waiters_of, current_record}
-use Rattle.step_definition.specs.Calls.{Start, Answer, Event, recorded, shares_taken, newly_malicious, requested, retried, job_written, newly_malicious_in, Outcome, outcome, failing, quiet}
+use Rattle.step_definition.specs.Calls.{share_request_in, Start, Answer, Event, recorded, shares_taken, newly_malicious, requested, retried, job_written, newly_malicious_in, Outcome, outcome, failing, quiet}
 use Rattle.step_definition.specs.Effects.{recording, freeing}
 use Rattle.step_definition.specs.Phases.{Phase, idling, gathering_nonces, gathering_shares, resting, phase_of}
 use Rattle.step_definition.specs.Phases.{Content, a_nonce_request, a_nonce_response, a_share_response, a_dkg_begin, unheard, share_response_in}
 use Rattle.step_definition.specs.Run.{malicious_in}
-use Rattle.step_definition.specs.Silence.{Watch, watch_after, listening}
+use Rattle.step_definition.specs.Silence.{Watch, unasked, watch_after, listening}
 use Rattle.step_definition.specs.Starts.{naming, start_round, idle_request, idle}
 use Rattle.step_definition.specs.Timeouts.{nonce_timeout, share_timeout}
 use Rattle.step_definition.specs.NonceGather.{NonceVerdict, RecordVerdict, too_few, no_group_key, suffices, record_verdict, on_record, on_nonces}
@@ -51,7 +51,12 @@ module _ (c : Coordinator) (heard : Option SignatureShareResponse) (start : Bool
   anew :
       {n : Answer} {es : List Event} {d : Coordinator} → newly_malicious_in es ≡ none → ((w : Watch) → Known w (commissioned d))
       → Fine (outcome n es (commissioned d))
-  anew m f = record { opens = λ r e. f _; keeps = λ w i. f _; excludes = λ ids e. absurd (none-ne-some ids (sym m ∙ e)) }
+  anew {n = n} {es = es} m f =
+      record {
+        opens = λ r e. f unasked;
+        keeps = λ w i. f (watch_after (share_request_in es) (start && eqb n.number 11) (listening w heard));
+        excludes = λ ids e. absurd (none-ne-some ids (sym m ∙ e));
+      }
 
   refused11 :
       {d : Coordinator}
@@ -89,7 +94,15 @@ module _ (c : Coordinator) (heard : Option SignatureShareResponse) (start : Bool
       → d.standing.malicious_signer_ids ≡ malicious_after c → ((w : Watch) → Known w (commissioned d))
       → Fine (outcome n (newly_malicious (silent c) ∷ (requested r ∷ (retried ∷ []))) (commissioned d))
   unfolding first malicious_in
-  again {t} p m f = record { opens = λ r e. f _; keeps = λ w i. f _; excludes = λ ids e. (t, p, m, cc) }
+  again {t} {n} {r} p m f =
+      record {
+        opens = λ r' e. f unasked;
+        keeps =
+            λ w i. f
+            (watch_after (share_request_in (newly_malicious (silent c) ∷ (requested r ∷ (retried ∷ [])))) (start && eqb n.number 11)
+            (listening w heard));
+        excludes = λ ids e. (t, p, m, cc);
+      }
 
   share-timeout-good :
       (now : ℕ) (t : SignatureType) → phase_of c.position.state ≡ gathering_shares t → Moves c

@@ -21,7 +21,7 @@ use Rattle.validity.specs.contracts.keys.KeyIds as KeyIds-row
 
 -- a KeyIds has sixteen places
 pub keys_16 : (k : KeyIds) (vs : List Val) → Is KeyIds-row.the_row k vs → length k.ids ≡ 16
-keys_16 k vs g = rw length-map at g.1.1.0.1.0.1
+keys_16 k vs g = g.1.1.0.1.0.1
 
 -- no more is taken than there is
 take_min : (l : List ℕ) (n : ℕ) → take (min n (length l)) l ≡ take n l
@@ -65,6 +65,7 @@ entry_at : (w k i : ℕ) (s : List ℕ) → i < k → get_or (entries w k s) i [
 unfolding entries
 entry_at w (suc k) zero s h = rw (mul-zero w)
 entry_at w (suc k) (suc i) s h = rw (entry_at w k i (drop w s) (omega arith), drop-drop, mul-suc, add_comm w (w * i))
+entry_at w zero i s h = elim h [ ]
 
 -- the ith id
 pub id_at : (s : List ℕ) (i : ℕ) → i < length s / 4 → get_or (ids_in s) i 0 ≡ number_at 4 (4 * i) s

@@ -8,7 +8,7 @@ use crate::ids;
 use layout::KeyId;
 
 // A list of key ids: the first `count` of sixteen places.
-#[derive(Drop)]
+#[derive(Clone, Copy)]
 pub struct KeyIds {
     pub ids: [KeyId; layout::LIST_LIMIT],
     pub count: usize,
@@ -16,7 +16,7 @@ pub struct KeyIds {
 
 // What the comparison of a key list with a key set finds: whether they have the same keys, and how many entries of the list repeat an
 // earlier one.
-#[derive(Drop)]
+#[derive(Clone, Copy)]
 pub struct KeyComparison {
     pub same: bool,
     pub repeats: usize,

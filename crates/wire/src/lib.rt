@@ -1,5 +1,7 @@
 // Fields of bytes in a slice: little-endian numbers, read and written, and a copy. Every function takes any slice and any
 // place: what lies past the end reads as 0 and is not written.
+#![tactic(auto)]
+
 ghost use Rattle.std.specs.Prelude.{◌≡◌, ◌+◌, ◌≤◌, ◌<◌, ◌%◌, ◌&&◌, eqb, leb, length, get_or, take, drop};
 ghost use Rattle.wire.specs.Bytes.{le, number_at, put, are_same_bytes};
 

@@ -13,7 +13,7 @@ use layout::{Header, Ids};
 use pieces::places::{Arrival, Arrivals, SignerIds};
 
 // Which of an arrival's two numbers a part lists.
-#[derive(Drop)]
+#[derive(Clone, Copy)]
 pub enum Column {
     Signers,
     Clocks,

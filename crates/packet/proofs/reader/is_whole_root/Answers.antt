@@ -1,0 +1,10 @@
+-- The part's length against the type's.
+-- Assumes nothing.
+use borrow.Author.Rules.{rules}
+use mathlib.Core.Path.{sym, ◌∙◌}
+use native.Mathlib.Omega.{arith}
+use Rattle.std.proofs.lemmas.Grind.{common_steps}
+use Rattle.packet.proofs.reader.is_whole_root.Goals as goal
+
+pub returns : goal.returns
+returns c = cc

@@ -1,0 +1,25 @@
+-- Question 8, then 9; the header of a message that is taken is the packet's.
+-- Assumes nothing.
+use borrow.Author.Rules.{rules}
+use mathlib.Core.Path.{sym, ◌∙◌, ap}
+use Rattle.layout.specs.Decode.{decode}
+use Rattle.layout.proofs.Headed.{header-message_in}
+use Rattle.packet.specs.declared.reader.Reading.TheVariants.{Packet}
+use Rattle.packet.specs.Reading.{reading}
+use Rattle.frame.proofs.Flags.{says_no, says_yes}
+use native.Mathlib.Omega.{arith}
+use Rattle.std.proofs.lemmas.Grind.{common_steps}
+use Rattle.packet.proofs.reader.read.Goals as goal
+
+pub returns-then-not-is_laid_out : goal.returns-then-not-is_laid_out
+unfolding reading decode
+returns-then-not-is_laid_out c = rw ((sym c.is_laid_out.ensures ∙ c.if-not-is_laid_out.true))
+
+pub returns-then-not-is_within : goal.returns-then-not-is_within
+unfolding reading decode
+returns-then-not-is_within c = rw ((sym c.is_laid_out.ensures ∙ c.if-not-is_laid_out.false), (sym c.is_within.ensures ∙ c.if-not-is_within.true))
+
+pub returns : goal.returns
+unfolding reading decode
+returns c = let l = (sym c.is_laid_out.ensures ∙ c.if-not-is_laid_out.false) in
+    rw (l, (sym c.is_within.ensures ∙ c.if-not-is_within.false)) (ap Packet (c.header.ensures ∙ sym (header-message_in c.args.s.now l)))

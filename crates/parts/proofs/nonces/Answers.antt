@@ -1,0 +1,16 @@
+-- The third part is a response's nonces.
+-- Assumes nothing.
+use borrow.Author.Rules.{rules}
+use mathlib.Core.Path.{◌∙◌, ap}
+use Rattle.layout.specs.Messages.{NonceResponse, nonce_response}
+use Rattle.layout.specs.Decode.{response_in, nonces_in}
+use Rattle.parts.proofs.Taken.{says}
+use mathlib.Core.Path.{sym}
+use native.Mathlib.Omega.{arith}
+use Rattle.std.proofs.lemmas.Grind.{common_steps}
+use Rattle.parts.proofs.nonces.Goals as goal
+
+pub returns : goal.returns
+unfolding response_in
+returns c = let p = c.part_at.ensures in
+    (p, λ m e. ap nonces_in p ∙ ap (λ (r : NonceResponse). r.nonces) (says c.args.s.now (nonce_response m) e))
