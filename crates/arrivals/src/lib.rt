@@ -1,4 +1,6 @@
 // When each signer answered (02, e): the query that writes the arrivals of the responses to the current message.
+#![tactic(auto)]
+
 ghost use Rattle.std.specs.Prelude.{◌≡◌, ◌≤◌, length};
 ghost use Rattle.layout.specs.Limits.{signer_limit, answer_length};
 ghost use Rattle.pieces.specs.Places.{arrivals_of};

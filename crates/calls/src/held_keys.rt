@@ -7,7 +7,7 @@ use state::answers;
 use state::answers::{Asks, Done, Passed};
 use state::fields::{Coordinator, Keys};
 
-#[derive(Drop)]
+#[derive(Clone, Copy)]
 pub enum HeldKey {
     Coordinator,
     Aggregate,

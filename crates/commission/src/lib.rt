@@ -1,4 +1,6 @@
 // Commissioning: a configuration is asked 1 to 3; where it is accepted, the struct is as the Rust's `new` gives it and the store is zeros.
+#![tactic(auto)]
+
 pub mod fresh;
 pub mod store;
 

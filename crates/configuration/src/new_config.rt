@@ -7,21 +7,21 @@ pub const KEY_PLACES: usize = LIST_LIMIT + 1;
 pub const SIGNER_PLACES: usize = SIGNER_LIMIT + 1;
 
 // The first `count` places count, in any order.
-#[derive(Drop)]
+#[derive(Clone, Copy)]
 pub struct NewKeys {
     pub ids: [KeyId; KEY_PLACES],
     pub count: usize,
 }
 
 // A signer with or without a key set.
-#[derive(Drop)]
+#[derive(Clone, Copy)]
 pub struct NewSigner {
     pub id: SignerId,
     pub has_keys: bool,
     pub keys: NewKeys,
 }
 
-#[derive(Drop)]
+#[derive(Clone, Copy)]
 pub struct NewConfig {
     pub num_signers: u32,
     pub num_keys: u32,

@@ -1,5 +1,7 @@
 // The calls together, as a host makes them: each takes the struct by value and is lent the store, and gives the answer and the struct
 // after. None asks anything of its arguments. `call_refines` and `run_refines` (crate coordinator_theorems) say that they are the step's.
+#![tactic(auto)]
+
 ghost use Rattle.std.specs.Prelude.{[], length};
 ghost use Rattle.state.specs.Turns.{Did};
 ghost use Rattle.commission.specs.Commission.{commission_turn};

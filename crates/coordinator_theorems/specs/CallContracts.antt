@@ -1,5 +1,4 @@
 -- A function's contract as a term: what it asks and what it promises, for the lemmas that equate it with a definition.
-use seplogic.Ra.Ura.{Ura}
 use base.Logic.{SProp, emp}
 use prog.Memory.{Memory}
 use prog.Routine.{Routine}
@@ -13,8 +12,8 @@ use denote.Triple.Clauses.{Ended, AtExit, Clauses, ClausesAt}
 -- a function's contract, as it is written, at a model of the machine
 abbrev pub at :
     (w : World) {T : Ended}
-    → ((𝓤 : Ura w.M) (𝓛 : Logic 𝓤) → (Memory → SProp 𝓤) → (Routine → Fun 𝓤) → Clauses 𝓤 T) → Clauses w.𝓤 T
-at w c = c w.𝓤 w.𝓛 w.𝓜.mem w.𝓡.run
+    → (Logic w.𝓤 → (Memory → SProp w.𝓤) → (Routine → Fun w.𝓤) → Clauses w.𝓤 T) → Clauses w.𝓤 T
+at w c = c w.𝓛 w.𝓜.mem w.𝓡.run
 
 -- the contract that asks nothing of a caller, and promises Φ of the result and of what the references hold at exit
 abbrev pub promising :

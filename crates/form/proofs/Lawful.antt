@@ -108,7 +108,8 @@ bytes_part s at (suc n) l = rw (drop-cons s at 0 (omega arith), bytes_part s (at
 bytes_back : {s : List ℕ} {at : ℕ} (bs : List ℕ) → Stands s at bs → bytes_at s at (length bs) ≡ bs
 unfolding bytes_at
 bytes_back [] h = refl
-bytes_back (b ∷ bs) h = rw (stands_byte b (stands_left (b ∷ []) bs h), bytes_back bs (stands_right (b ∷ []) bs 1 refl h))
+bytes_back {s = s} {at = at} (b ∷ bs) h =
+    rw (stands_byte b (stands_left (b ∷ []) bs h), bytes_back {at = at + 1} bs (stands_right (b ∷ []) bs 1 refl h))
 
 bytes_front : (n : ℕ) (s : List ℕ) (at w : ℕ) → at + w ≤ n → bytes_at (take n s) at w ≡ bytes_at s at w
 unfolding bytes_at

@@ -9,4 +9,4 @@ use Rattle.id_lists.specs.declared.IdList.{IdList}
 use Rattle.id_lists.specs.contracts.IdList as IdList-row
 
 pub ids_160 : (l : IdList) (vs : List Val) → Is IdList-row.the_row l vs → length l.ids ≡ 160
-ids_160 l vs g = rw length-map at g.1.1.0.1.0.1
+ids_160 l vs g = g.1.1.0.1.0.1

@@ -1,4 +1,6 @@
 // Lists of ids in an array: an id looked for among them, whether one is there twice, and lists joined that share no key.
+#![tactic(auto)]
+
 ghost use Rattle.std.specs.Prelude.{◌≡◌, ◌≤◌, true, false, ◌||◌, eqb, length, take};
 ghost use Rattle.validity.specs.Keys.{listed, member, disjoint};
 ghost use Rattle.step_definition.specs.Ids.{distinct};
@@ -12,7 +14,7 @@ use validity::keys::KeyIds;
 pub const KEY_LIMIT: usize = SIGNER_LIMIT * LIST_LIMIT;
 
 // A list of ids: the first `count` of its places.
-#[derive(Drop)]
+#[derive(Clone, Copy)]
 pub struct IdList {
     pub ids: [u32; KEY_LIMIT],
     pub count: usize,

@@ -1,4 +1,6 @@
 // Idle, on a message: another coordinator's nonce request starts a round; DkgBegin is asked its dkg id.
+#![tactic(auto)]
+
 ghost use Rattle.std.specs.Prelude.{◌≡◌, ℕ, List, length};
 ghost use Rattle.layout.specs.LaidOut.{header_in};
 ghost use Rattle.state.specs.Turns.{Did};

@@ -7,7 +7,7 @@ use state::answers::{Answer, Class};
 // class: 0 nothing, 1 a packet, 2 a job, 3 a result, 4 an error. number: document 01's, 0 where no question is answered no. The first
 // `values` of the two values count. mark: 1 where a job is whole. length: how many bytes were written to the answer buffer.
 #[repr(C)]
-#[derive(Drop)]
+#[derive(Clone, Copy)]
 pub struct RcAnswer {
     pub class: u32,
     pub number: u32,

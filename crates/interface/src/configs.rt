@@ -9,7 +9,7 @@ use state::fields::{Reading, Timeouts};
 
 // A timeout where `given` is not 0.
 #[repr(C)]
-#[derive(Drop)]
+#[derive(Clone, Copy)]
 pub struct RcTimeout {
     pub given: u64,
     pub nanoseconds: u64,
@@ -17,7 +17,7 @@ pub struct RcTimeout {
 
 // A signer, with a key set where `has_keys` is not 0: the first `key_count` of its keys.
 #[repr(C)]
-#[derive(Drop)]
+#[derive(Clone, Copy)]
 pub struct RcSigner {
     pub id: u32,
     pub has_keys: u32,
@@ -28,7 +28,7 @@ pub struct RcSigner {
 
 // The first `signer_count` of the signers count.
 #[repr(C)]
-#[derive(Drop)]
+#[derive(Clone, Copy)]
 pub struct RcConfig {
     pub num_signers: u32,
     pub num_keys: u32,

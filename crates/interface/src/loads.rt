@@ -15,7 +15,7 @@ pub fn unsaved() -> Coordinator
 }
 
 // The state that bytes count as, and whether a save left them.
-#[derive(Drop)]
+#[derive(Clone, Copy)]
 pub struct Loaded {
     pub saved: bool,
     pub state: Coordinator,

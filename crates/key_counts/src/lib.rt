@@ -1,3 +1,5 @@
 // The keys of the signers' key sets, counted.
+#![tactic(auto)]
+
 pub mod counts;
 pub mod keys;

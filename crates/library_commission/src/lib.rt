@@ -1,4 +1,6 @@
 // Commissioning, over the state's bytes.
+#![tactic(auto)]
+
 ghost use Rattle.std.specs.Prelude.{[], leb, length};
 ghost use Rattle.state_bytes.specs.Saved.{state_length};
 ghost use Rattle.interface.specs.Configs.{config_of};

@@ -1,4 +1,6 @@
 // Signers are heard and time passes, over the state's bytes.
+#![tactic(auto)]
+
 ghost use Rattle.std.specs.Prelude.{length};
 ghost use Rattle.packet_entry.specs.declared.Entry.TheVariants.{Process, ProcessMessage};
 ghost use Rattle.process.specs.Process.{receive_turn};

@@ -1,4 +1,6 @@
 // What a host asks and nothing changes by, over the state's bytes: they are only read.
+#![tactic(auto)]
+
 ghost use Rattle.std.specs.Prelude.{length};
 ghost use Rattle.arrivals.specs.Query.{arrivals_turn};
 ghost use Rattle.state_bytes.specs.Loaded.{is_saved, loaded};

@@ -1,4 +1,6 @@
 // A packet's header and the places of its parts as plain numbers, for a host that has no slices.
+#![tactic(auto)]
+
 ghost use Rattle.std.specs.Prelude.{◌≡◌, ◌+◌, ◌≤◌, length, take, drop};
 ghost use Rattle.layout.specs.Decode.{decode};
 ghost use Rattle.parts.specs.Parts.{part_in};
@@ -12,7 +14,7 @@ use packet_in_hand::counts;
 
 // refusal: 8 or 9 where the packet is not taken, and then all else is 0.
 #[repr(C)]
-#[derive(Drop)]
+#[derive(Clone, Copy)]
 pub struct RcPacket {
     pub refusal: u32,
     pub kind: u32,
@@ -27,7 +29,7 @@ pub struct RcPacket {
 
 // Where a part begins in its packet, and how long it is.
 #[repr(C)]
-#[derive(Drop)]
+#[derive(Clone, Copy)]
 pub struct RcPart {
     pub at: u64,
     pub length: u64,

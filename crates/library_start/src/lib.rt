@@ -1,4 +1,6 @@
 // The host starts a round or asks for a move, over the state's bytes.
+#![tactic(auto)]
+
 ghost use Rattle.std.specs.Prelude.{◌≡◌, [], length};
 ghost use Rattle.state.specs.Turns.{Did};
 ghost use Rattle.state_bytes.specs.Loaded.{is_saved, loaded};

@@ -104,7 +104,7 @@ root_given-length root = length-put (replicate 32 0) 0 root ∙ length-replicate
 pub config-arrays : (g : RcConfig) (vs : List Val) → Is RcConfig-row.the_row g vs → GivenArrays (request_of (commission g))
 unfolding request_of config_of
 config-arrays g vs h =
-    let n : length g.signers ≡ 11 = rw length-map at h.1.1.1.1.1.1.1.1.1.1.1.1.1.1.0.1.0.1 in
+    let n : length g.signers ≡ 11 = h.1.1.1.1.1.1.1.1.1.1.1.1.1.1.0.1.0.1 in
     rw (length-map, n)
 
 pub other_arrays : (q : LibraryRequest) → commissions q ≡ false → GivenArrays (request_of q)

@@ -1,4 +1,6 @@
 // What the host tells, over the state's bytes: keys, results, how aggregating ended, a reset.
+#![tactic(auto)]
+
 ghost use Rattle.std.specs.Prelude.{[]};
 ghost use Rattle.calls.specs.declared.held_keys.HeldKey.TheVariants as Which;
 ghost use Rattle.calls.specs.Calls.{set_key_turn, aggregated_turn};

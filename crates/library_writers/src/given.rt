@@ -11,7 +11,7 @@ use responses::lists::ResponseHead;
 
 // Ids, type and root of a request or a job. The root counts where the type is 3.
 #[repr(C)]
-#[derive(Drop)]
+#[derive(Clone, Copy)]
 pub struct RcHead {
     pub dkg_id: u64,
     pub sign_id: u64,
@@ -23,7 +23,7 @@ pub struct RcHead {
 
 // Who responds, and to which request.
 #[repr(C)]
-#[derive(Drop)]
+#[derive(Clone, Copy)]
 pub struct RcResponseHead {
     pub dkg_id: u64,
     pub sign_id: u64,
@@ -34,7 +34,7 @@ pub struct RcResponseHead {
 
 // The first `count` of the ids.
 #[repr(C)]
-#[derive(Drop)]
+#[derive(Clone, Copy)]
 pub struct RcSignerIds {
     pub ids: [u32; SIGNER_LIMIT],
     pub count: u64,
@@ -42,7 +42,7 @@ pub struct RcSignerIds {
 
 // A signer, and when it answered.
 #[repr(C)]
-#[derive(Drop)]
+#[derive(Clone, Copy)]
 pub struct RcArrival {
     pub signer_id: u32,
     pub reserved: u32,
@@ -51,7 +51,7 @@ pub struct RcArrival {
 
 // The first `count` of the arrivals.
 #[repr(C)]
-#[derive(Drop)]
+#[derive(Clone, Copy)]
 pub struct RcArrivals {
     pub arrivals: [RcArrival; SIGNER_LIMIT],
     pub count: u64,
@@ -59,14 +59,14 @@ pub struct RcArrivals {
 
 // A list in the source: where it begins, and how many entries it has.
 #[repr(C)]
-#[derive(Drop)]
+#[derive(Clone, Copy)]
 pub struct RcPlace {
     pub at: u64,
     pub count: u64,
 }
 
 #[repr(C)]
-#[derive(Drop)]
+#[derive(Clone, Copy)]
 pub struct RcResponse {
     pub dkg_id: u64,
     pub sign_id: u64,
@@ -79,7 +79,7 @@ pub struct RcResponse {
 }
 
 #[repr(C)]
-#[derive(Drop)]
+#[derive(Clone, Copy)]
 pub struct RcResponses {
     pub places: [RcResponse; SIGNER_LIMIT],
     pub count: u64,
@@ -87,7 +87,7 @@ pub struct RcResponses {
 
 // The shares' key ids lie one after the other from share_keys_at, so many for each share.
 #[repr(C)]
-#[derive(Drop)]
+#[derive(Clone, Copy)]
 pub struct RcJobPlace {
     pub key_ids: RcPlace,
     pub nonces: RcPlace,
@@ -97,7 +97,7 @@ pub struct RcJobPlace {
 }
 
 #[repr(C)]
-#[derive(Drop)]
+#[derive(Clone, Copy)]
 pub struct RcJobPlaces {
     pub places: [RcJobPlace; SIGNER_LIMIT],
     pub count: u64,

@@ -17,7 +17,7 @@ use writer::{dkg, results};
 
 // refusal: 0, or 01's number, and then nothing was written.
 #[repr(C)]
-#[derive(Drop)]
+#[derive(Clone, Copy)]
 pub struct RcWritten {
     pub refusal: u32,
     pub reserved: u32,

@@ -1,2 +1,4 @@
 // The coordinator's numbers and flags loaded from bytes: the structs of them, each field from its place.
+#![tactic(auto)]
+
 pub mod fields;

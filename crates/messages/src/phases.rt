@@ -6,7 +6,7 @@ ghost use Rattle.messages.specs.Phases.{phase_answer};
 use layout::SignatureType;
 use state_table::State;
 
-#[derive(Drop)]
+#[derive(Clone, Copy)]
 pub enum Phase {
     Idling,
     GatheringNonces(SignatureType),

@@ -1,2 +1,4 @@
 // NonceGather, on a response.
+#![tactic(auto)]
+
 pub mod gather;

@@ -1,4 +1,6 @@
 // A packet that is taken, by the call that brings it: `process` tests the timeout first, `process_message` does not.
+#![tactic(auto)]
+
 ghost use Rattle.std.specs.Prelude.{length};
 ghost use Rattle.state.specs.Turns.{Did};
 ghost use Rattle.messages.specs.Messages.{Incoming};
@@ -13,7 +15,7 @@ use state::answers::Done;
 use state::fields::Coordinator;
 
 // Which call brings the packet: `process` tests the timeout first.
-#[derive(Drop)]
+#[derive(Clone, Copy)]
 pub enum Entry {
     Process,
     ProcessMessage,

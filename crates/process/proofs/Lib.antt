@@ -1,5 +1,4 @@
 -- Laws of the two calls that bring a packet.
 -- Assumes nothing.
 pub mod Entering
-pub mod Passed
 pub mod Refines

@@ -3,39 +3,34 @@
 use Prim.Native.Nat.{ℕ}
 use mathlib.Core.Path.{◌≡◌, refl}
 use mathlib.Core.Bool.{Bool, true, false}
-use mathlib.Core.List.{List, [], ◌∷◌}
 use native.Mathlib.Omega.{arith}
-use denote.Enum.Declared.{tag_of}
-use types.Run.{OneOf, miss}
 use Rattle.layout.specs.declared.SignatureType.{SignatureType}
 use Rattle.state_table.specs.declared.State.{State}
 use Rattle.state_table.specs.declared.State.TheVariants.{Idle, DkgPublicDistribute, DkgPublicGather, DkgPublicSharesDoneDistribute, DkgPublicSharesDoneGather, DkgPrivateDistribute, DkgPrivateGather, DkgPrivateSharesDoneDistribute, DkgPrivateSharesDoneGather, DkgEndDistribute, DkgEndGather, NonceRequest, NonceGather, SigShareRequest, SigShareGather}
-use Rattle.state_table.specs.contracts.State as State-type
 use Rattle.step_definition.specs.Phases.{Phase, idling, gathering_nonces, gathering_shares, resting, phase_of}
 use Rattle.process_timeout.specs.declared.dues.Due.TheVariants.{Nothing, Shares}
 use Rattle.process_timeout.specs.Due.{due_in}
 
 -- all states but the two that gather
-abbrev others : List ℕ
-others = 0 ∷ (1 ∷ (2 ∷ (3 ∷ (4 ∷ (5 ∷ (6 ∷ (7 ∷ (8 ∷ (9 ∷ (10 ∷ (11 ∷ (13 ∷ []))))))))))))
-
-pub none_due : (s : State) (nonces shares : Bool) → OneOf others (tag_of State-type.the_type s) → Nothing ≡ due_in (phase_of s) nonces shares
+pub none_due :
+    (s : State) (nonces shares : Bool)
+    → ((t : SignatureType) → s ≡ NonceGather t → ⊥) → ((t : SignatureType) → s ≡ SigShareGather t → ⊥) → Nothing ≡ due_in (phase_of s) nonces shares
 unfolding due_in
-none_due Idle nonces shares h = refl
-none_due DkgPublicDistribute nonces shares h = refl
-none_due DkgPublicGather nonces shares h = refl
-none_due DkgPublicSharesDoneDistribute nonces shares h = refl
-none_due DkgPublicSharesDoneGather nonces shares h = refl
-none_due DkgPrivateDistribute nonces shares h = refl
-none_due DkgPrivateGather nonces shares h = refl
-none_due DkgPrivateSharesDoneDistribute nonces shares h = refl
-none_due DkgPrivateSharesDoneGather nonces shares h = refl
-none_due DkgEndDistribute nonces shares h = refl
-none_due DkgEndGather nonces shares h = refl
-none_due (NonceRequest t) nonces shares h = refl
-none_due (NonceGather t) nonces shares h = absurd (miss others 12 tt h)
-none_due (SigShareRequest t) nonces shares h = refl
-none_due (SigShareGather t) nonces shares h = absurd (miss others 14 tt h)
+none_due Idle nonces shares h k = refl
+none_due DkgPublicDistribute nonces shares h k = refl
+none_due DkgPublicGather nonces shares h k = refl
+none_due DkgPublicSharesDoneDistribute nonces shares h k = refl
+none_due DkgPublicSharesDoneGather nonces shares h k = refl
+none_due DkgPrivateDistribute nonces shares h k = refl
+none_due DkgPrivateGather nonces shares h k = refl
+none_due DkgPrivateSharesDoneDistribute nonces shares h k = refl
+none_due DkgPrivateSharesDoneGather nonces shares h k = refl
+none_due DkgEndDistribute nonces shares h k = refl
+none_due DkgEndGather nonces shares h k = refl
+none_due (NonceRequest t) nonces shares h k = refl
+none_due (NonceGather t) nonces shares h k = absurd (h t refl)
+none_due (SigShareRequest t) nonces shares h k = refl
+none_due (SigShareGather t) nonces shares h k = absurd (k t refl)
 
 -- the share timeout is due only where shares are gathered, with that type
 abbrev typed : Phase → SignatureType → Type 0

@@ -14,7 +14,7 @@ use state::fields::{Coordinator, Reading};
 use state_table::State;
 
 // The timeout that fires; for shares with the type that they are gathered for.
-#[derive(Drop)]
+#[derive(Clone, Copy)]
 pub enum Due {
     Nothing,
     Nonces,

@@ -10,7 +10,7 @@ use state::fields::{Config, Coordinator};
 use validity::{keys, nonces};
 
 // The slot of a signer among those configured, where it is one of them.
-#[derive(Drop)]
+#[derive(Clone, Copy)]
 pub enum Slot {
     At(usize),
     Nowhere,

@@ -9,7 +9,7 @@ use crate::{admits, records};
 use layout::{Ids, RECORD_LIMIT, SignerId};
 use state::fields::{Coordinator, Records};
 
-#[derive(Drop)]
+#[derive(Clone, Copy)]
 pub enum Verdict {
     // 16 to 18, with what was got and what was expected
     Wrong(u32, u64, u64),

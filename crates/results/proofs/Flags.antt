@@ -53,6 +53,7 @@ there {A} key f keyed x t (e ∷ es) s a (later i) =
     by (some y) q l r =
         let m : key y < key x = omega (arith, keyed e y q, keyed t x s) in
         rw (le-ltb (key x) (key y) (omega arith), ne_eqb (key x) (key y) (λ p. omega arith), r)
+there {A = A} key f keyed x t [] s a x4 = elim x4 [ ]
 
 flagged-id : (flags : List Bool) (e : SignerSlot) (y : ℕ) → flagged_in flags e ≡ some y → y ≡ e.id
 flagged-id flags e y h = sym (when_some (get_or flags e.slot false) e.id y h)

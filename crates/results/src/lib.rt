@@ -1,3 +1,5 @@
 // Taking key generation's results.
+#![tactic(auto)]
+
 pub mod ended;
 pub mod results;

@@ -1,5 +1,7 @@
-// The signing phase as a library for a host in C or Rust: libroundcabinet.a, described by include/roundcabinet.h. The state crosses as
-// bytes in a buffer that the host lends, beside the store and the answer buffer. No call asks anything of its arguments.
+// The signing phase as a library for a host in C or Rust, described by include/roundcabinet.h. The state crosses as bytes in a buffer that
+// the host lends, beside the store and the answer buffer. No call asks anything of its arguments. Crate roundcabinet_c exports the calls.
+#![tactic(auto)]
+
 ghost use Rattle.std.specs.Prelude.{◌+◌, ◌≤◌, ◌≡◌, [], leb, length, take, drop};
 ghost use Rattle.layout.specs.Decode.{decode};
 ghost use Rattle.parts.specs.Parts.{part_in};

@@ -1,2 +1,4 @@
 // The coordinator's arrays saved as bytes, one element after the other.
+#![tactic(auto)]
+
 pub mod arrays;

@@ -38,6 +38,7 @@ module _ (f : SignerSlot → Option ℕ) (own : (e : SignerSlot) (y : ℕ) → f
       (f' : SignerSlot → Option ℕ) (t : SignerSlot) (es : List SignerSlot) → f' t ≡ none → Rising es → In t es
       → All (λ (e : SignerSlot). (e.id ≡ t.id → ⊥) → f' e ≡ f e) es → collect f' es ≡ remove t.id (collect f es)
   unfolding collect with_some remove
+  collect-remove f' t [] n a x4 o = elim x4 [ ]
   collect-remove f' t (e ∷ es) n a here o =
       let rest : collect f' es ≡ collect f es = collect_same f' f es (others es a.0 o.1) in
       rw (n, rest) (by (f t) refl (remove_above t.id es a.0))

@@ -1,4 +1,6 @@
 // SigShareGather, on a response: decided, the waiter freed, and its good shares taken.
+#![tactic(auto)]
+
 ghost use Rattle.std.specs.Prelude.{◌≡◌, ◌<◌, length};
 ghost use Rattle.layout.specs.Limits.{signer_limit, record_limit};
 ghost use Rattle.state.specs.Turns.{Did};

@@ -1,5 +1,7 @@
 // The signature share request (kind 3) of a record, written from struct and store: the message and its recorded responses, ascending by
 // signer, each as it was sent.
+#![tactic(auto)]
+
 pub mod asking;
 
 ghost use Rattle.std.specs.Prelude.{◌≡◌, length};

@@ -1,4 +1,6 @@
 // The good shares of a waiter that is removed: kept, and where nobody is waited for any more, the job written.
+#![tactic(auto)]
+
 ghost use Rattle.std.specs.Prelude.{◌≡◌, ℕ, length};
 ghost use Rattle.state.specs.Turns.{Did};
 ghost use Rattle.share_taking.specs.Taking.{SharesRecorded, job_turn, Taking, take_turn};

@@ -1,4 +1,6 @@
 // What is to be done with a share response: decided without a change.
+#![tactic(auto)]
+
 ghost use Rattle.std.specs.Prelude.{◌≡◌, map, eqb, ◌≤◌, ◌<◌};
 ghost use Rattle.layout.specs.Limits.{signer_limit, record_limit};
 ghost use Rattle.layout.specs.LaidOut.{header_in, parts_from};
@@ -14,7 +16,7 @@ use state::fields::{Coordinator, Records};
 use validity::keys;
 
 // r is the place of the current message's record, i the waiter's slot.
-#[derive(Drop)]
+#[derive(Clone, Copy)]
 pub enum Verdict {
     Unawaited,
     // 16 or 17, with what was got and what was expected

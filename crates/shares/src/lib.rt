@@ -1,5 +1,7 @@
 // Recording a signer's signature shares: the key ids of all joined, and the shares written in the places of the signer's slot, each
 // share's id and z_i first, then the key ids of all, one after the other.
+#![tactic(auto)]
+
 ghost use Rattle.std.specs.Prelude.{◌≡◌, ◌++◌, map, ◌+◌, ◌≤◌, ◌<◌};
 ghost use Rattle.layout.specs.Limits.{list_limit, signer_limit};
 ghost use Rattle.layout.specs.LaidOut.{parts_from};

@@ -1,4 +1,6 @@
 // The ids of flagged signers in ascending order, as the writers take them; the signers that a record waits for as flags.
+#![tactic(auto)]
+
 ghost use Rattle.std.specs.Prelude.{◌≡◌, [], ◌++◌, map, ◌+◌, ◌≤◌, ◌<◌};
 ghost use Rattle.layout.specs.Limits.{signer_limit};
 ghost use Rattle.pieces.specs.Places.{signers_of};

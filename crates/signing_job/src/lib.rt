@@ -1,5 +1,7 @@
 // The aggregator's job (kind 32) of a record, written from struct and store when the last waiter's shares are recorded; the mark beside
 // it, and whether a record has a waiter left.
+#![tactic(auto)]
+
 ghost use Rattle.std.specs.Prelude.{◌≡◌, length};
 ghost use Rattle.framing.specs.Writing.{Wrote, written};
 ghost use Rattle.signing_job.specs.SigningJob.{JobReady, job_bytes, job_mark};
@@ -16,7 +18,7 @@ pub mod waiters;
 pub mod whole;
 
 // What became of the answer buffer, and whether the job is whole.
-#[derive(Drop)]
+#[derive(Clone, Copy)]
 pub struct SigningJob {
     pub written: Written,
     pub whole: bool,

@@ -12,7 +12,7 @@ use Rattle.starts.specs.contracts.naming.Start as Start-row
 use Rattle.starts.proofs.Refines.{Sized}
 
 root_32 : (by : Start) (vs : List Val) → Is Start-row.the_row by vs → length by.root ≡ 32
-root_32 x vs g = rw length-map at g.1.1.1.0.1.0.1
+root_32 x vs g = g.1.1.1.0.1.0.1
 
 pub all_sized :
     (s : Coordinator) (by : Start) (vs us : List Val) → Is Coordinator-row.the_row s vs → Is Start-row.the_row by us → Sized s by

@@ -6,14 +6,14 @@ use layout::{Ids, ROOT_LENGTH, SignatureType};
 use state::fields::Coordinator;
 
 // The sign id of a round: the one after the last round's, or a given one.
-#[derive(Drop)]
+#[derive(Clone, Copy)]
 pub enum SignId {
     Next,
     Given(u64),
 }
 
 // start_signing_round's arguments besides the message. The root counts for TaprootRoot alone.
-#[derive(Drop)]
+#[derive(Clone, Copy)]
 pub struct Start {
     pub signature_type: SignatureType,
     pub root: [u8; ROOT_LENGTH],

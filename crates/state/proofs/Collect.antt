@@ -94,6 +94,7 @@ module _ {A : Type 0} (key : A → ℕ) (f : SignerSlot → Option A) (keyed : (
       by l (some y) q =
           let m : key y < key x = omega (arith, keyed e y q) in
           rw (le-ltb (key x) (key y) (omega arith), ne_eqb (key x) (key y) (λ p. omega arith))
+  collect-insert x f' t [] k n s a x7 o = elim x7 [ ]
 
   -- a search by number finds what the signer's slot holds
   pub find_out : (id : ℕ) (es : List SignerSlot) → All (λ (e : SignerSlot). e.id ≡ id → ⊥) es → find (λ (y : A). eqb id (key y)) (collect f es) ≡ none
@@ -118,6 +119,7 @@ module _ {A : Type 0} (key : A → ℕ) (f : SignerSlot → Option A) (keyed : (
           → find (λ (y : A). eqb t.id (key y)) (with_some o (collect f es)) ≡ f t
       by l none q r = r
       by l (some y) q r = rw (ne_eqb t.id (key y) (λ p. omega (arith, keyed e y q))) r
+  find_in t [] a x'' = elim x'' [ ]
 
 -- a member is found
 pub member_found : (id : ℕ) (xs : List ℕ) → member id xs ≡ is_some (find (λ (x : ℕ). eqb id x) xs)

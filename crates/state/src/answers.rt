@@ -7,7 +7,7 @@ use crate::counts;
 use crate::fields::Coordinator;
 use layout::{ANSWER_LENGTH, STORE_LENGTH};
 
-#[derive(Drop)]
+#[derive(Clone, Copy)]
 pub enum Class {
     Nothing,
     Packet,
@@ -18,7 +18,7 @@ pub enum Class {
 
 // number: document 01's, 0 where no question is answered no. The first `values` of the two values count. length: how many bytes were
 // written to the answer buffer.
-#[derive(Drop)]
+#[derive(Clone, Copy)]
 pub struct Answer {
     pub class: Class,
     pub number: u32,
@@ -29,21 +29,21 @@ pub struct Answer {
     pub length: usize,
 }
 
-#[derive(Drop)]
+#[derive(Clone, Copy)]
 pub struct Done {
     pub answer: Answer,
     pub after: Coordinator,
 }
 
 // Which of 5, 6 and 7 a call is asked.
-#[derive(Drop)]
+#[derive(Clone, Copy)]
 pub struct Asks {
     pub no_job: bool,
     pub a_job: bool,
     pub room: bool,
 }
 
-#[derive(Drop)]
+#[derive(Clone, Copy)]
 pub enum Passed {
     Yes,
     No(u32),

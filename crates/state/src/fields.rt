@@ -5,13 +5,13 @@ use state_table::State;
 use validity::keys::KeyIds;
 
 // A clock reading or a timeout in nanoseconds, or none.
-#[derive(Drop)]
+#[derive(Clone, Copy)]
 pub enum Reading {
     Never,
     At(u64),
 }
 
-#[derive(Drop)]
+#[derive(Clone, Copy)]
 pub struct Timeouts {
     pub dkg_public: Reading,
     pub dkg_private: Reading,
@@ -21,14 +21,14 @@ pub struct Timeouts {
 }
 
 // A configured signer, with or without a key set.
-#[derive(Drop)]
+#[derive(Clone, Copy)]
 pub struct SignerEntry {
     pub id: SignerId,
     pub has_keys: bool,
     pub keys: KeyIds,
 }
 
-#[derive(Drop)]
+#[derive(Clone, Copy)]
 pub struct Config {
     pub num_signers: u32,
     pub num_keys: u32,
@@ -42,7 +42,7 @@ pub struct Config {
 }
 
 // What is known of one signer's response to one message; its lists lie in the store. clock: the reading of the call that brought it.
-#[derive(Drop)]
+#[derive(Clone, Copy)]
 pub struct ResponseSlot {
     pub held: bool,
     pub waits: bool,
@@ -53,70 +53,70 @@ pub struct ResponseSlot {
 }
 
 // The responses to one message, a slot for each configured signer.
-#[derive(Drop)]
+#[derive(Clone, Copy)]
 pub struct SignRoundInfo {
     pub message: usize,
     pub slots: [ResponseSlot; SIGNER_LIMIT],
 }
 
-#[derive(Drop)]
+#[derive(Clone, Copy)]
 pub struct Records {
     pub rows: [SignRoundInfo; RECORD_LIMIT],
     pub count: usize,
 }
 
 // One signer's shares: how many, and how many key ids each has.
-#[derive(Drop)]
+#[derive(Clone, Copy)]
 pub struct ShareSlot {
     pub held: bool,
     pub count: usize,
     pub key_counts: [u8; LIST_LIMIT],
 }
 
-#[derive(Drop)]
+#[derive(Clone, Copy)]
 pub struct Shares {
     pub slots: [ShareSlot; SIGNER_LIMIT],
 }
 
 // Which signers ended key generation, and which are malicious (01: struck).
-#[derive(Drop)]
+#[derive(Clone, Copy)]
 pub struct Marks {
     pub ended: [bool; SIGNER_LIMIT],
     pub malicious: [bool; SIGNER_LIMIT],
 }
 
-#[derive(Drop)]
+#[derive(Clone, Copy)]
 pub struct Position {
     pub state: State,
     pub root: [u8; 32],
 }
 
-#[derive(Drop)]
+#[derive(Clone, Copy)]
 pub struct Message {
     pub bytes: [u8; MESSAGE_LIMIT],
     pub len: usize,
 }
 
-#[derive(Drop)]
+#[derive(Clone, Copy)]
 pub struct Clocks {
     pub nonce_start: Reading,
     pub sign_start: Reading,
 }
 
-#[derive(Drop)]
+#[derive(Clone, Copy)]
 pub struct Keys {
     pub coordinator: bool,
     pub aggregate: bool,
 }
 
 // A signer's id and its slot.
-#[derive(Drop)]
+#[derive(Clone, Copy)]
 pub struct SignerSlot {
     pub id: u32,
     pub slot: usize,
 }
 
-#[derive(Drop)]
+#[derive(Clone, Copy)]
 pub struct Coordinator {
     pub commissioned: bool,
     pub config: Config,

@@ -11,7 +11,7 @@ use mir.Val.{Val}
 use denote.Array.{each as each_of}
 use denote.Laws.{Is}
 use denote.Shadow.{shadow}
-use denote.Struct.Declared.{Declared, row, field as field_of}
+use denote.Struct.Declared.{Declared, row}
 use Rattle.wire.specs.Bytes.{All}
 use Rattle.layout.specs.Limits.{message_limit, list_limit, signer_limit, record_limit}
 use Rattle.layout.specs.declared.Ids.{Ids}
@@ -55,7 +55,7 @@ use Rattle.state_bytes.proofs.Described.{byte-state, byte_type}
 -- what holds of every value of a struct's type holds of every element of an array of them
 each_all :
     (T : Declared) (P : T.D → Type 0) → ((x : T.D) (vs : List Val) → Is (row T) x vs → P x)
-    → (xs : List T.D) (us : List Val) → shadow (each_of (field_of T).row.Denot (field_of T).row.own_val (map T.to xs) us) → All P xs
+    → (xs : List T.D) (us : List Val) → shadow (each_of (row T).Denot (row T).own_val xs us) → All P xs
 each_all T P p [] us g = tt
 each_all T P p (x ∷ xs) [] g = absurd g
 each_all T P p (x ∷ xs) (u ∷ us) g = (p x (u ∷ []) g.0, each_all T P p xs us g.1)
@@ -63,7 +63,7 @@ each_all T P p (x ∷ xs) (u ∷ us) g = (p x (u ∷ []) g.0, each_all T P p xs 
 -- how many elements there are, and each of them
 pub array_fits :
     (T : Declared) (G : Form T.D) (n : ℕ) → ((x : T.D) (vs : List Val) → Is (row T) x vs → G.Fits x) → (xs : List T.D) (us : List Val)
-    → length xs ≡ n → shadow (each_of (field_of T).row.Denot (field_of T).row.own_val (map T.to xs) us) → (each n G).Fits xs
+    → length xs ≡ n → shadow (each_of (row T).Denot (row T).own_val xs us) → (each n G).Fits xs
 unfolding pieces
 array_fits T G n p xs us e g = (e, each_all T G.Fits p xs us g)
 
@@ -108,7 +108,7 @@ key_fits k vs g = g.1.1.0.1
 pub signer-fits : (e : SignerEntry) (vs : List Val) → Is SignerEntry-row.the_row e vs → signer_form.Fits e
 unfolding signer_form pieces
 signer-fits e vs g =
-    let keys = rw length-map at g.1.1.1.1.0.1.1.0.1.0.1 in (
+    let keys = g.1.1.1.1.0.1.1.0.1.0.1 in (
       g.1.1.0.1.1.0.1,
       (
         tt,
@@ -164,8 +164,8 @@ share-fits h vs g = (tt, (g.1.1.1.0.1, (counts_16 h _ g, tt)))
 pub marks_fit : (m : Marks) (vs : List Val) → Is Marks-row.the_row m vs → marks_form.Fits m
 unfolding marks_form pieces
 marks_fit m vs g =
-    let ended = rw length-map at g.1.1.0.1.0.1 in
-    let malicious = rw length-map at g.1.1.1.0.1.0.1 in
+    let ended = g.1.1.0.1.0.1 in
+    let malicious = g.1.1.1.0.1.0.1 in
     (flags_fit signer_limit m.ended ended, (flags_fit signer_limit m.malicious malicious, tt))
 
 pub message-fits : (m : Message) (vs : List Val) → Is Message-row.the_row m vs → message_form.Fits m

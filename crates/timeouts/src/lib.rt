@@ -1,4 +1,6 @@
 // The results of the two timeouts; and a nonce timeout that fires: its result, or 12 where the current message has no record.
+#![tactic(auto)]
+
 ghost use Rattle.std.specs.Prelude.{◌≡◌, ◌≤◌, length};
 ghost use Rattle.layout.specs.Limits.{message_limit, record_limit};
 ghost use Rattle.state.specs.Turns.{Did};

@@ -1,0 +1,13 @@
+-- `nobody`: no arrival counts.
+-- Assumes nothing.
+use mathlib.Core.Path.{refl}
+use native.Mathlib.Omega.{arith}
+use Rattle.pieces.specs.Places.{arrivals_of}
+use mathlib.Core.Path.{sym, ◌∙◌}
+use borrow.Author.Rules.{rules}
+use Rattle.std.proofs.lemmas.Grind.{common_steps}
+use Rattle.arrivals.proofs.walks.nobody.Goals as goal
+
+pub returns : goal.returns
+unfolding arrivals_of
+returns c = (refl, omega arith)

@@ -1,0 +1,13 @@
+-- `no_message`: no bytes.
+-- Assumes nothing.
+use mathlib.Core.Path.{refl}
+use Rattle.commission.specs.Commission.{no_message}
+use mathlib.Core.Path.{sym, ◌∙◌}
+use borrow.Author.Rules.{rules}
+use native.Mathlib.Omega.{arith}
+use Rattle.std.proofs.lemmas.Grind.{common_steps}
+use Rattle.commission.proofs.fresh.no_message.Goals as goal
+
+pub returns : goal.returns
+unfolding no_message
+returns c = refl

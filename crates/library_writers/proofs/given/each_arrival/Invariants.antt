@@ -1,0 +1,14 @@
+-- `each_arrival`.
+-- Assumes nothing.
+use Prim.Native.Nat.{◌-◌}
+use mathlib.Core.Path.{refl}
+use native.Mathlib.Omega.{arith}
+use Rattle.library_writers.specs.Given.{arrival_given}
+use Rattle.pieces.proofs.Mapped.{Mapped, none_yet, one_more, all_of_it}
+use Rattle.library_writers.proofs.given.each_arrival.Given as goal
+
+abbrev pub invariant-loop-i : goal.invariant-loop-i
+invariant-loop-i l = Mapped arrival_given l.given 10 l.all l.i
+
+abbrev pub decreases-loop-i : goal.decreases-loop-i
+decreases-loop-i l = 10 - l.i

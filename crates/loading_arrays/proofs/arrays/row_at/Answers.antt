@@ -1,0 +1,13 @@
+-- `row_at`: each field from its place.
+-- Assumes nothing.
+use borrow.Author.Rules.{rules}
+use Rattle.form.specs.Form.{pieces}
+use Rattle.state_bytes.specs.Description.{row_form}
+use mathlib.Core.Path.{sym, ◌∙◌}
+use native.Mathlib.Omega.{arith}
+use Rattle.std.proofs.lemmas.Grind.{common_steps}
+use Rattle.loading_arrays.proofs.arrays.row_at.Goals as goal
+
+pub returns : goal.returns
+unfolding pieces row_form
+returns c = cc

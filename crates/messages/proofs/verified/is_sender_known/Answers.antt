@@ -1,0 +1,32 @@
+-- `is_sender_known`: kinds that signers send name a slot, or nobody's.
+-- Assumes nothing.
+use borrow.Author.Rules.{rules}
+use borrow.Author.Tests.{not-true, not-false}
+use mathlib.Core.Path.{sym, ◌∙◌}
+use Rattle.records.proofs.Asking.{answer_none, answer_some}
+use Rattle.messages.specs.Verified.{sender_known}
+use native.Mathlib.Omega.{arith}
+use Rattle.std.proofs.lemmas.Grind.{common_steps}
+use Rattle.messages.proofs.verified.is_sender_known.Goals as goal
+
+pub returns-then-not-is_signer_kind : goal.returns-then-not-is_signer_kind
+unfolding sender_known
+returns-then-not-is_signer_kind c = rw (← c.is_signer_kind.ensures, c.if-not-is_signer_kind.true)
+
+pub returns-in-At : goal.returns-in-At
+unfolding sender_known
+returns-in-At c =
+    rw (
+      ← c.is_signer_kind.ensures,
+      c.if-not-is_signer_kind.false,
+      answer_some _ _ (sym c.slot_of-found.ensures ∙ c.in-At.is),
+    )
+
+pub returns-in-Nowhere : goal.returns-in-Nowhere
+unfolding sender_known
+returns-in-Nowhere c =
+    rw (
+      ← c.is_signer_kind.ensures,
+      c.if-not-is_signer_kind.false,
+      answer_none _ (sym c.slot_of-found.ensures ∙ c.in-Nowhere.is),
+    )

@@ -1,0 +1,26 @@
+-- `is_share_slot_within`: the two tests of shares that are held.
+-- Assumes nothing.
+use borrow.Author.Rules.{rules}
+use borrow.Author.Tests.{not-true, not-false, lt-leb, le-leb}
+use Rattle.state.specs.Counts.{shares_within}
+use mathlib.Core.Path.{sym, ◌∙◌}
+use native.Mathlib.Omega.{arith}
+use Rattle.std.proofs.lemmas.Grind.{common_steps}
+use Rattle.state.proofs.counts.is_share_slot_within.Goals as goal
+
+pub returns-then-not-s : goal.returns-then-not-s
+unfolding shares_within
+returns-then-not-s c = rw (not-true c.args.s.held c.if-not-s.true)
+
+pub returns-then-s-gt-LIST_LIMIT : goal.returns-then-s-gt-LIST_LIMIT
+unfolding shares_within
+returns-then-s-gt-LIST_LIMIT c = rw (not-false c.args.s.held c.if-not-s.false, lt-leb _ _ c.if-s-gt-LIST_LIMIT.true)
+
+pub returns : goal.returns
+unfolding shares_within
+returns c =
+    rw (
+      not-false c.args.s.held c.if-not-s.false,
+      le-leb _ _ c.if-s-gt-LIST_LIMIT.false,
+      ← c.share_keys.ensures,
+    )
