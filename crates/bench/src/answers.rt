@@ -7,43 +7,43 @@ use script::{print, states, tokens};
 use state_table::State;
 use validity::keys::KeyIds;
 
-fn ids(ids: Ids) {
-    print::field(b", ids ", ids.dkg_id);
-    print::field(b" ", ids.sign_id);
-    print::field(b" ", ids.sign_iter_id);
+fn ids(rt: &impl Print, ids: Ids) {
+    print::field(rt, b", ids ", ids.dkg_id);
+    print::field(rt, b" ", ids.sign_id);
+    print::field(rt, b" ", ids.sign_iter_id);
 }
 
-fn header(h: Header) {
-    print::field(b"kind ", h.kind as u64);
-    print::field(b", type ", h.signature_type as u64);
-    print::field(b", signer ", h.signer_id as u64);
-    ids(h.ids);
-    print::field(b", pairs ", h.pairs as u64);
+fn header(rt: &impl Print, h: Header) {
+    print::field(rt, b"kind ", h.kind as u64);
+    print::field(rt, b", type ", h.signature_type as u64);
+    print::field(rt, b", signer ", h.signer_id as u64);
+    ids(rt, h.ids);
+    print::field(rt, b", pairs ", h.pairs as u64);
 }
 
 // What the reader says of these bytes: refused with a number, or a packet with so many pairs.
-fn answer(s: &[u8], pairs: u16, refusal: u8) {
+fn answer(rt: &impl Print, s: &[u8], pairs: u16, refusal: u8) {
     if refusal != 0 {
-        print::field(b"refused ", refusal as u64);
+        print::field(rt, b"refused ", refusal as u64);
         return;
     }
     let h = frame::header(s);
-    header(h);
-    lists::all(s, h.kind, pairs as usize);
+    header(rt, h);
+    lists::all(rt, s, h.kind, pairs as usize);
 }
 
 // The packet in hand, taken apart.
-fn tell<'a>(opened: Opened<'a>) {
+fn tell<'a>(rt: &impl Print, opened: Opened<'a>) {
     let packet = opened.packet;
-    answer(packet.bytes, packet.pairs, opened.refusal)
+    answer(rt, packet.bytes, packet.pairs, opened.refusal)
 }
 
-pub fn read<'a>(s: &'a [u8]) {
-    tell(packet_in_hand::open(s))
+pub fn read<'a>(rt: &impl Print, s: &'a [u8]) {
+    tell(rt, packet_in_hand::open(s))
 }
 
-fn yes_or_no(b: bool) {
-    print::either(b, b"yes", b"no");
+fn yes_or_no(rt: &impl Print, b: bool) {
+    print::either(rt, b, b"yes", b"no");
 }
 
 // A list of key ids and the set after it: byte 0 says how many bytes the list has.
@@ -56,10 +56,10 @@ fn set_in(s: &[u8]) -> KeyIds {
     validity::keys::key_list(wire::part(s, at, s.len()))
 }
 
-fn compare(s: &[u8]) {
+fn compare(rt: &impl Print, s: &[u8]) {
     let found = validity::keys::compare(list_in(s), set_in(s));
-    yes_or_no(found.same);
-    print::field(b", repeats ", found.repeats as u64);
+    yes_or_no(rt, found.same);
+    print::field(rt, b", repeats ", found.repeats as u64);
 }
 
 // A state: its number and its type; a third byte is the last of its root.
@@ -75,17 +75,20 @@ fn root_in(s: &[u8]) -> [u8; layout::ROOT_LENGTH] {
 }
 
 // A move: the previous state's three bytes, then the next state's.
-fn moves(s: &[u8]) {
+fn moves(rt: &impl Print, s: &[u8]) {
     let to = wire::part(s, 3, 3);
     if 14 < wire::byte(s, 0) || 14 < wire::byte(to, 0) {
-        print::text(b"not run: no state is above 14");
+        print::text(rt, b"not run: no state is above 14");
         return;
     }
     if 3 < wire::byte(s, 1) || 3 < wire::byte(to, 1) {
-        print::text(b"not run: no signature type is above 3");
+        print::text(rt, b"not run: no signature type is above 3");
         return;
     }
-    yes_or_no(state_table::can_move_to(state_in(s), root_in(s), state_in(to), root_in(to)));
+    yes_or_no(
+        rt,
+        state_table::can_move_to(state_in(s), root_in(s), state_in(to), root_in(to)),
+    );
 }
 
 // The letters that name a case.
@@ -100,6 +103,7 @@ pub fn is_letter(b: u8) -> bool {
 
 // The case that a letter names.
 pub fn run(
+    rt: &impl Print,
     letter: u8,
     args: &[u8; tokens::CASE_LENGTH],
     n: usize,
@@ -107,11 +111,11 @@ pub fn run(
 ) {
     let s = wire::part(args, 0, n);
     match letter {
-        b'R' => read(s),
-        b'V' => yes_or_no(validity::nonces::are_valid(s)),
-        b'K' => compare(s),
-        b'M' => moves(s),
-        b'2' | b'4' => signer_packets::run(letter, s),
-        _ => writes::run(letter, s, store),
+        b'R' => read(rt, s),
+        b'V' => yes_or_no(rt, validity::nonces::are_valid(s)),
+        b'K' => compare(rt, s),
+        b'M' => moves(rt, s),
+        b'2' | b'4' => signer_packets::run(rt, letter, s),
+        _ => writes::run(rt, letter, s, store),
     }
 }

@@ -1,19 +1,24 @@
 // Lists of ids, printed, and a packet's lists.
 use script::{lines, print};
 
-fn ids(s: &[u8]) {
-    print::text(b", key ids {");
-    print::ids(s);
-    print::text(b" }");
+fn ids(rt: &impl Print, s: &[u8]) {
+    print::text(rt, b", key ids {");
+    print::ids(rt, s);
+    print::text(rt, b" }");
 }
 
 // A kind 2 packet's lists.
-fn response(s: &[u8]) {
-    print::field(b"; message ", parts::message(s).len() as u64);
-    ids(parts::key_ids(s));
+fn response(rt: &impl Print, s: &[u8]) {
+    print::field(rt, b"; message ", parts::message(s).len() as u64);
+    ids(rt, parts::key_ids(s));
     let nonces = parts::nonces(s);
-    print::field(b", nonces ", (nonces.len() / layout::NONCE_LENGTH) as u64);
+    print::field(
+        rt,
+        b", nonces ",
+        (nonces.len() / layout::NONCE_LENGTH) as u64,
+    );
     print::either(
+        rt,
         validity::nonces::are_valid(nonces),
         b" valid",
         b" not valid",
@@ -21,54 +26,54 @@ fn response(s: &[u8]) {
 }
 
 // A response of a kind 3 packet.
-fn nested(s: &[u8]) {
+fn nested(rt: &impl Print, s: &[u8]) {
     let h = frame::header(s);
-    print::field(b"\n  response of ", h.signer_id as u64);
-    print::field(b", sign id ", h.ids.sign_id);
-    response(s);
+    print::field(rt, b"\n  response of ", h.signer_id as u64);
+    print::field(rt, b", sign id ", h.ids.sign_id);
+    response(rt, s);
 }
 
 // A share of a kind 4 packet.
-fn share(s: &[u8]) {
-    print::field(b"\n  share ", parts::share_id(s) as u64);
-    print::text(b", z_i ");
-    print::sum(parts::share_z_i(s));
-    ids(parts::share_key_ids(s));
+fn share(rt: &impl Print, s: &[u8]) {
+    print::field(rt, b"\n  share ", parts::share_id(s) as u64);
+    print::text(rt, b", z_i ");
+    print::sum(rt, parts::share_z_i(s));
+    ids(rt, parts::share_key_ids(s));
 }
 
 // Response or share i, by the packet's kind.
-fn item(kind: u8, s: &[u8], i: usize) {
+fn item(rt: &impl Print, kind: u8, s: &[u8], i: usize) {
     let i = (i % 256) as u8;
     if kind == 3 {
-        nested(parts::nested(s, i));
+        nested(rt, parts::nested(s, i));
     } else {
-        share(parts::share(s, i));
+        share(rt, parts::share(s, i));
     }
 }
 
-fn each_item(kind: u8, s: &[u8], count: usize) {
+fn each_item(rt: &impl Print, kind: u8, s: &[u8], count: usize) {
     let mut i: usize = 0;
     while i < count {
-        item(kind, s, i);
+        item(rt, kind, s, i);
         i += 1;
     }
 }
 
-fn request(s: &[u8]) {
-    print::field(b"; message ", parts::message(s).len() as u64);
-    print::field(b", root ", parts::root(s).len() as u64);
+fn request(rt: &impl Print, s: &[u8]) {
+    print::field(rt, b"; message ", parts::message(s).len() as u64);
+    print::field(rt, b", root ", parts::root(s).len() as u64);
 }
 
 // The lists of a packet of that kind.
-pub fn all(s: &[u8], kind: u8, pairs: usize) {
+pub fn all(rt: &impl Print, s: &[u8], kind: u8, pairs: usize) {
     match kind {
-        1 => request(s),
-        2 => response(s),
+        1 => request(rt, s),
+        2 => response(rt, s),
         3 => {
-            request(s);
-            each_item(kind, s, lines::less(pairs, 2));
+            request(rt, s);
+            each_item(rt, kind, s, lines::less(pairs, 2));
         }
-        4 => each_item(kind, s, pairs),
+        4 => each_item(rt, kind, s, pairs),
         _ => {}
     }
 }

@@ -1,6 +1,8 @@
 // The host's test program for Bench: replays the script on standard input, a case a line, and prints what the reader, the writers,
 // the tests of a response and the table of states answer. docs/BENCH.md says how a line reads; scripts/bench.py, which follows
 // documents 01 and 02 and shares no code with the crates, writes the script and the expected output.
+#![tactic(auto)]
+
 mod answers;
 mod lists;
 mod pattern;
@@ -11,30 +13,36 @@ use script::lines::{LINE_LENGTH, Line};
 use script::{cases, lines, print, tokens};
 
 // Runs the case on a line.
-fn run_line(line: &[u8], long: bool, store: &[u8; layout::STORE_LENGTH]) {
-    cases::label(line);
-    print::text(b": ");
+fn run_line(rt: &impl Print, line: &[u8], long: bool, store: &[u8; layout::STORE_LENGTH]) {
+    cases::label(rt, line);
+    print::text(rt, b": ");
     let mut args = [0u8; tokens::CASE_LENGTH];
     let letter = wire::byte(line, 0);
     let case = cases::read(line, long, answers::is_letter(letter), &mut args);
     if case.fault == tokens::FINE {
-        answers::run(letter, &args, case.made, store);
+        answers::run(rt, letter, &args, case.made, store);
     } else {
-        cases::tell(case.fault);
+        cases::tell(rt, case.fault);
     }
-    print::text(b"\n");
+    print::text(rt, b"\n");
 }
 
 // A line that has ended is run.
-fn run_ended(line: Line, kept: &[u8; LINE_LENGTH], store: &[u8; layout::STORE_LENGTH]) -> Line {
+fn run_ended(
+    rt: &impl Print,
+    line: Line,
+    kept: &[u8; LINE_LENGTH],
+    store: &[u8; layout::STORE_LENGTH],
+) -> Line {
     if !line.ended {
         return line;
     }
-    run_line(wire::part(kept, 0, line.len), line.long, store);
+    run_line(rt, wire::part(kept, 0, line.len), line.long, store);
     lines::empty()
 }
 
 fn run_piece(
+    rt: &impl Print,
     piece: &[u8],
     line: Line,
     kept: &mut [u8; LINE_LENGTH],
@@ -45,32 +53,39 @@ fn run_piece(
     while i < piece.len() {
         let to = lines::after(piece, i, b'\n');
         next = lines::gather(next, piece, i, to, kept);
-        next = run_ended(next, kept, store);
+        next = run_ended(rt, next, kept, store);
         i = to;
     }
     next
 }
 
 // A last line without its newline is a line.
-fn finish(line: Line, ended: bool, kept: &[u8; LINE_LENGTH], store: &[u8; layout::STORE_LENGTH]) {
+fn finish(
+    rt: &impl Print,
+    line: Line,
+    ended: bool,
+    kept: &[u8; LINE_LENGTH],
+    store: &[u8; layout::STORE_LENGTH],
+) {
     if 0 < line.len {
-        run_line(wire::part(kept, 0, line.len), line.long, store);
+        run_line(rt, wire::part(kept, 0, line.len), line.long, store);
     }
-    lines::finish(ended);
+    lines::finish(rt, ended);
 }
 
-fn main() {
+fn main(rt: HostRuntime) {
     let store = pattern::store();
     let mut kept = [0u8; LINE_LENGTH];
-    let mut piece = io::buffer();
+    let mut piece = [0u8; lines::PIECE_LENGTH];
+    let mut reader = rt.reader();
     let mut line = lines::empty();
     let mut ended = false;
     let mut left = lines::PIECES;
     while 0 < left {
-        let got = io::read_full(0, &mut piece);
-        line = run_piece(wire::part(&piece, 0, got), line, &mut kept, &store);
+        let got = lines::read_full(&mut reader, &mut piece);
+        line = run_piece(&rt, wire::part(&piece, 0, got), line, &mut kept, &store);
         ended = got < lines::PIECE_LENGTH;
         left = if ended { 0 } else { left - 1 };
     }
-    finish(line, ended, &kept, &store);
+    finish(&rt, line, ended, &kept, &store);
 }

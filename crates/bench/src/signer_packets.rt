@@ -52,25 +52,25 @@ fn first(list: &[u32], n: usize) -> &[u32] {
     &list[0..n]
 }
 
-fn tell_room() {
-    print::text(b"not run: no list of numbers is longer than 40");
+fn tell_room(rt: &impl Print) {
+    print::text(rt, b"not run: no list of numbers is longer than 40");
 }
 
-fn tell_lists() {
-    print::text(b"not run: the lists are not as long as the case says");
+fn tell_lists(rt: &impl Print) {
+    print::text(rt, b"not run: the lists are not as long as the case says");
 }
 
-fn nonce_response(s: &[u8], out: &mut [u8]) {
+fn nonce_response(rt: &impl Print, s: &[u8], out: &mut [u8]) {
     let message_len = length(s, 30);
     let key_count = length(s, 32);
     let nonces_len = length(s, 34);
     if ROOM < key_count {
-        tell_room();
+        tell_room(rt);
         return;
     }
     let key_bytes = key_count * ID_LENGTH;
     if s.len() != 36 + message_len + key_bytes + nonces_len {
-        tell_lists();
+        tell_lists(rt);
         return;
     }
     let lists = rest(s, 36);
@@ -79,20 +79,20 @@ fn nonce_response(s: &[u8], out: &mut [u8]) {
     let key_ids = numbers(after);
     let bytes = rest(after, key_bytes);
     let w = nonces::write_nonce_response(out, head(s), message, first(&key_ids, key_count), bytes);
-    writes::show(w, out);
+    writes::show(rt, w, out);
 }
 
-fn signature_share_response(s: &[u8], out: &mut [u8]) {
+fn signature_share_response(rt: &impl Print, s: &[u8], out: &mut [u8]) {
     let share_count = length(s, 30);
     let z_i_len = length(s, 32);
     let counts_len = length(s, 34);
     let key_count = length(s, 36);
     if ROOM < share_count || ROOM < counts_len || ROOM < key_count {
-        tell_room();
+        tell_room(rt);
         return;
     }
     if s.len() != 38 + (share_count + counts_len + key_count) * ID_LENGTH + z_i_len {
-        tell_lists();
+        tell_lists(rt);
         return;
     }
     let lists = rest(s, 38);
@@ -109,21 +109,21 @@ fn signature_share_response(s: &[u8], out: &mut [u8]) {
         first(&key_counts, counts_len),
         first(&key_ids, key_count),
     );
-    writes::show(w, out);
+    writes::show(rt, w, out);
 }
 
 // A part of the buffer is lent, as for the other writers.
-pub fn run(letter: u8, s: &[u8]) {
+pub fn run(rt: &impl Print, letter: u8, s: &[u8]) {
     let mut out = [0xaau8; 19240];
     let n = length(s, 0);
     if 19240 < n {
-        writes::tell_buffer();
+        writes::tell_buffer(rt);
         return;
     }
     let part = &mut out[0..n];
     if letter == b'2' {
-        nonce_response(s, part);
+        nonce_response(rt, s, part);
     } else {
-        signature_share_response(s, part);
+        signature_share_response(rt, s, part);
     }
 }

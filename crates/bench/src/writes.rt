@@ -170,47 +170,47 @@ fn write(letter: u8, s: &[u8], store: &[u8; layout::STORE_LENGTH], out: &mut [u8
 }
 
 // What the reader says of a packet that it may read.
-fn read_back(out: &[u8], n: usize) {
+fn read_back(rt: &impl Print, out: &[u8], n: usize) {
     if wire::byte(out, 0) < 8 {
-        print::text(b"\n  ");
-        answers::read(wire::part(out, 0, n));
+        print::text(rt, b"\n  ");
+        answers::read(rt, wire::part(out, 0, n));
     }
 }
 
 // The answer, a sum over the whole buffer, and what the reader says of the packet.
-pub fn show(w: Written, out: &[u8]) {
+pub fn show(rt: &impl Print, w: Written, out: &[u8]) {
     match w {
         Written::Bytes(n) => {
-            io::print_decimal(1, n as u64);
-            print::text(b" bytes, ");
-            print::sum(out);
-            read_back(out, n);
+            print::field(rt, b"", n as u64);
+            print::text(rt, b" bytes, ");
+            print::sum(rt, out);
+            read_back(rt, out, n);
         }
         Written::Refused(n) => {
-            print::field(b"refused ", n as u64);
-            print::text(b", ");
-            print::sum(out);
+            print::field(rt, b"refused ", n as u64);
+            print::text(rt, b", ");
+            print::sum(rt, out);
         }
     }
 }
 
-pub fn tell_buffer() {
-    print::text(b"not run: no buffer is longer than 19240 bytes");
+pub fn tell_buffer(rt: &impl Print) {
+    print::text(rt, b"not run: no buffer is longer than 19240 bytes");
 }
 
 // A buffer eight bytes longer than an answer needs, of which the case lends a part.
-pub fn run(letter: u8, s: &[u8], store: &[u8; layout::STORE_LENGTH]) {
+pub fn run(rt: &impl Print, letter: u8, s: &[u8], store: &[u8; layout::STORE_LENGTH]) {
     let mut out = [0xaau8; 19240];
     let n = wire::u16_at(s, 1) as usize;
     if 19240 < n {
-        tell_buffer();
+        tell_buffer(rt);
         return;
     }
     if 3 < wire::byte(s, 0) {
-        print::text(b"not run: no signature type is above 3");
+        print::text(rt, b"not run: no signature type is above 3");
         return;
     }
     let part = &mut out[0..n];
     let w = write(letter, s, store, part);
-    show(w, part);
+    show(rt, w, part);
 }

@@ -9,7 +9,7 @@ const NO_BAR: u8 = 5;
 const NO_LETTER: u8 = 6;
 
 // The bytes that the tokens made, and the first fault.
-#[derive(Drop)]
+#[derive(Clone, Copy)]
 pub struct Case {
     pub made: usize,
     pub fault: u8,
@@ -26,14 +26,14 @@ fn bar(line: &[u8]) -> usize {
 }
 
 // The label: what stands between the letter and the bar, without the blanks beside it.
-pub fn label(line: &[u8]) {
+pub fn label(rt: &impl Print, line: &[u8]) {
     let at = bar(line);
     let end = if at == 0 {
         line.len()
     } else {
         lines::less(at, 2)
     };
-    print::text(lines::from_to(line, 2, end));
+    print::text(rt, lines::from_to(line, 2, end));
 }
 
 fn faulty(fault: u8) -> Case {
@@ -60,13 +60,13 @@ pub fn read(line: &[u8], long: bool, known: bool, args: &mut [u8; tokens::CASE_L
 }
 
 // What is told of a case that is not run.
-pub fn tell(fault: u8) {
+pub fn tell(rt: &impl Print, fault: u8) {
     match fault {
-        tokens::NO_NUMBER => print::text(b"not run: a token is no byte and no number"),
-        tokens::TOO_WIDE => print::text(b"not run: a number does not fit its bytes"),
-        tokens::TOO_LONG => print::text(b"not run: the case is longer than 32768 bytes"),
-        LONG_LINE => print::text(b"not run: the line is longer than 8192 bytes"),
-        NO_BAR => print::text(b"not run: the line has no bar"),
-        _ => print::text(b"not run: no case has this letter"),
+        tokens::NO_NUMBER => print::text(rt, b"not run: a token is no byte and no number"),
+        tokens::TOO_WIDE => print::text(rt, b"not run: a number does not fit its bytes"),
+        tokens::TOO_LONG => print::text(rt, b"not run: the case is longer than 32768 bytes"),
+        LONG_LINE => print::text(rt, b"not run: the line is longer than 8192 bytes"),
+        NO_BAR => print::text(rt, b"not run: the line has no bar"),
+        _ => print::text(rt, b"not run: no case has this letter"),
     }
 }

@@ -1,5 +1,8 @@
 // The script's lines, put together from the pieces in which it is read.
-ghost use Rattle.std.specs.Prelude.{◌<◌, length};
+ghost use Rattle.std.specs.Prelude.{◌<◌, ◌≤◌, length};
+
+use crate::print;
+use std::io::Read;
 
 pub const LINE_LENGTH: usize = 8192;
 
@@ -7,6 +10,21 @@ pub const LINE_LENGTH: usize = 8192;
 pub const PIECE_LENGTH: usize = 4096;
 
 pub const PIECES: u64 = 0x1_0000_0000;
+
+// Reads until the piece is full, the input ends or a read fails: how many bytes the piece has then.
+pub fn read_full(reader: &mut impl Read, piece: &mut [u8; PIECE_LENGTH]) -> usize
+    ensures { result ≤ length piece.new }
+{
+    let mut done: usize = 0;
+    while done < PIECE_LENGTH {
+        let got = reader.read(&mut piece[done..]).unwrap_or(0);
+        if got == 0 {
+            return done;
+        }
+        done += got;
+    }
+    done
+}
 
 // The place after the first b from `from` on, or the end.
 pub fn after(s: &[u8], from: usize, b: u8) -> usize
@@ -33,7 +51,7 @@ pub fn from_to(s: &[u8], a: usize, b: usize) -> &[u8] {
 }
 
 // A line as far as it is read: how many of its bytes are kept, whether there are more, and whether its newline has come.
-#[derive(Drop)]
+#[derive(Clone, Copy)]
 pub struct Line {
     pub len: usize,
     pub long: bool,
@@ -79,8 +97,8 @@ pub fn gather(
 }
 
 // After 2 ^ 44 bytes.
-pub fn finish(ended: bool) {
+pub fn finish(rt: &impl Print, ended: bool) {
     if !ended {
-        io::write_all(1, b"not read: what follows 17592186044416 bytes\n");
+        print::text(rt, b"not read: what follows 17592186044416 bytes\n");
     }
 }

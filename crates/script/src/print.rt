@@ -1,17 +1,17 @@
-// Text and numbers on standard output.
+// Text and numbers on standard output. A write that fails is passed over: what follows is tried all the same.
 
-pub fn text(s: &[u8]) {
-    io::write_all(1, s);
+pub fn text(rt: &impl Print, s: &[u8]) {
+    let _ = rt.write_all(s);
 }
 
-pub fn either(b: bool, yes: &[u8], no: &[u8]) {
-    if b { text(yes) } else { text(no) }
+pub fn either(rt: &impl Print, b: bool, yes: &[u8], no: &[u8]) {
+    if b { text(rt, yes) } else { text(rt, no) }
 }
 
 // A name and a number.
-pub fn field(name: &[u8], n: u64) {
-    text(name);
-    io::print_decimal(1, n);
+pub fn field(rt: &impl Print, name: &[u8], n: u64) {
+    text(rt, name);
+    let _ = rt.print(n);
 }
 
 // A sum over bytes that tells their order: h * 31 + byte, by 2 ^ 32.
@@ -26,28 +26,28 @@ pub fn sum_of(s: &[u8]) -> u64 {
 }
 
 // Eight hexadecimal digits.
-pub fn number(h: u64) {
-    io::print_hex(1, h, 8);
+pub fn number(rt: &impl Print, h: u64) {
+    let _ = print!(rt; "{h:08x}");
 }
 
 // Two of them.
-pub fn byte(b: u8) {
-    io::print_hex(1, b as u64, 2);
+pub fn byte(rt: &impl Print, b: u8) {
+    let _ = print!(rt; "{b:02x}");
 }
 
-pub fn sum(s: &[u8]) {
-    number(sum_of(s));
+pub fn sum(rt: &impl Print, s: &[u8]) {
+    number(rt, sum_of(s));
 }
 
-fn id(n: u32) {
-    field(b" ", n as u64);
+fn id(rt: &impl Print, n: u32) {
+    field(rt, b" ", n as u64);
 }
 
 // The numbers of four bytes each in s, each after a blank.
-pub fn ids(s: &[u8]) {
+pub fn ids(rt: &impl Print, s: &[u8]) {
     let mut i: usize = 0;
     while i < s.len() / layout::ID_LENGTH {
-        id(wire::u32_at(s, layout::ID_LENGTH * i));
+        id(rt, wire::u32_at(s, layout::ID_LENGTH * i));
         i += 1;
     }
 }

@@ -16,7 +16,7 @@ pub const TOO_LONG: u8 = 3;
 // The tokens as far as they are read: how many bytes they made, and the first fault. Of the last one: its mark, the number before the
 // mark, the digits since then in both bases and how many there are, whether one of them is a letter, whether its numbers pass 64 bits,
 // and whether it is no token at all.
-#[derive(Drop)]
+#[derive(Clone, Copy)]
 pub struct Token {
     pub made: usize,
     pub fault: u8,

@@ -68,14 +68,14 @@ pub fn fault(letter: u8, s: &[u8]) -> u8 {
     }
 }
 
-pub fn tell(fault: u8) {
+pub fn tell(rt: &impl Print, fault: u8) {
     match fault {
-        SIGNERS => print::text(b"not run: no configuration has more than 11 signers"),
-        KEYS => print::text(b"not run: no signer has more than 17 keys"),
-        ENDED => print::text(b"not run: no results have more than 16 signers"),
-        STATE => print::text(b"not run: no state is above 14"),
-        TYPE => print::text(b"not run: no signature type is above 3"),
-        _ => print::text(b"not run: no more is lent than 52224 and 19232 bytes"),
+        SIGNERS => print::text(rt, b"not run: no configuration has more than 11 signers"),
+        KEYS => print::text(rt, b"not run: no signer has more than 17 keys"),
+        ENDED => print::text(rt, b"not run: no results have more than 16 signers"),
+        STATE => print::text(rt, b"not run: no state is above 14"),
+        TYPE => print::text(rt, b"not run: no signature type is above 3"),
+        _ => print::text(rt, b"not run: no more is lent than 52224 and 19232 bytes"),
     }
 }
 

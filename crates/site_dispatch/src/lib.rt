@@ -1,4 +1,6 @@
 // One call, by its letter.
+#![tactic(auto)]
+
 use calls::held_keys::HeldKey;
 use site_calls::{arguments, configs};
 use state::answers::Done;

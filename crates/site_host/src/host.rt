@@ -4,7 +4,7 @@ use site_calls::limits;
 use site_text::{answers, states};
 use state::fields::Coordinator;
 
-#[derive(Drop)]
+#[derive(Clone, Copy)]
 pub struct Host {
     pub coordinator: Coordinator,
     pub store: usize,
@@ -20,14 +20,14 @@ pub fn fresh() -> Host {
     }
 }
 
-pub fn standing(host: Host) {
+pub fn standing(rt: &impl Print, host: Host) {
     let s = host.coordinator;
-    states::coordinator(s);
+    states::coordinator(rt, s);
 }
 
 // Lends so much from now on.
-fn lend(host: Host, args: &[u8]) -> Host {
-    print::text(b"nothing");
+fn lend(rt: &impl Print, host: Host, args: &[u8]) -> Host {
+    print::text(rt, b"nothing");
     let s = host.coordinator;
     Host {
         coordinator: s,
@@ -37,15 +37,29 @@ fn lend(host: Host, args: &[u8]) -> Host {
 }
 
 // The call, with what is lent, and its answer printed.
-fn call(letter: u8, args: &[u8], s: Coordinator, store: &mut [u8], out: &mut [u8]) -> Coordinator {
+fn call(
+    rt: &impl Print,
+    letter: u8,
+    args: &[u8],
+    s: Coordinator,
+    store: &mut [u8],
+    out: &mut [u8],
+) -> Coordinator {
     let before = print::sum_of(out);
     let done = site_dispatch::call(letter, args, s, store, out);
     let answer = done.answer;
-    answers::answer(answer, before, out);
+    answers::answer(rt, answer, before, out);
     done.after
 }
 
-fn run_call(letter: u8, args: &[u8], host: Host, store: &mut [u8], out: &mut [u8]) -> Host {
+fn run_call(
+    rt: &impl Print,
+    letter: u8,
+    args: &[u8],
+    host: Host,
+    store: &mut [u8],
+    out: &mut [u8],
+) -> Host {
     let n = host.store;
     let m = host.room;
     if store.len() < n || out.len() < m {
@@ -54,7 +68,7 @@ fn run_call(letter: u8, args: &[u8], host: Host, store: &mut [u8], out: &mut [u8
     let lent = &mut store[0..n];
     let room = &mut out[0..m];
     let s = host.coordinator;
-    let coordinator = call(letter, args, s, lent, room);
+    let coordinator = call(rt, letter, args, s, lent, room);
     Host {
         coordinator,
         store: n,
@@ -64,6 +78,7 @@ fn run_call(letter: u8, args: &[u8], host: Host, store: &mut [u8], out: &mut [u8
 
 // args: a case's bytes, of which the first n count.
 pub fn run(
+    rt: &impl Print,
     letter: u8,
     args: &[u8; tokens::CASE_LENGTH],
     n: usize,
@@ -74,11 +89,11 @@ pub fn run(
     let s = wire::part(args, 0, n);
     let fault = limits::fault(letter, s);
     if fault != limits::FINE {
-        limits::tell(fault);
+        limits::tell(rt, fault);
         return host;
     }
     if letter == b'B' {
-        return lend(host, s);
+        return lend(rt, host, s);
     }
-    run_call(letter, s, host, store, out)
+    run_call(rt, letter, s, host, store, out)
 }
