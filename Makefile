@@ -20,7 +20,7 @@ TO := $(DESTDIR)$(PREFIX)
 all: $(ARCHIVE)
 
 $(ARCHIVE):
-	rt staticlib roundcabinet
+	scripts/archive
 
 install: $(ARCHIVE)
 	$(INSTALL) -d $(TO)/include $(TO)/lib/pkgconfig $(TO)/share/doc/roundcabinet

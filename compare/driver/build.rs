@@ -1,7 +1,7 @@
 //! Links libroundcabinet.a from the folder ROUNDCABINET_LIB, and compiles the C file that says how
 //! the header lays out its structs.
 
-use std::{env, path::PathBuf, process::Command};
+use std::{env, fs, path::PathBuf, process::Command};
 
 fn main() {
     println!("cargo:rerun-if-env-changed=ROUNDCABINET_LIB");
@@ -17,9 +17,12 @@ fn main() {
     println!("cargo:rustc-link-search=native={}", folder.display());
     println!("cargo:rustc-link-lib=static=roundcabinet");
 
-    // places.rs includes it.
+    // places.rs includes it, as Rust reads it: without the attributes that speak to Rattle's checker.
     let places = here.join("../../crates/state_bytes/src/lib.rt");
     println!("cargo:rerun-if-changed={}", places.display());
+    let text = fs::read_to_string(&places).expect("crates/state_bytes/src/lib.rt");
+    let rust: Vec<&str> = text.lines().filter(|line| !line.starts_with("#![tactic(")).collect();
+    fs::write(out.join("places.rs"), rust.join("\n")).unwrap();
 
     let source = here.join("src/layout.c");
     let header = base.join("../include");

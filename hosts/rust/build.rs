@@ -1,6 +1,6 @@
 //! Finds libroundcabinet.a and links it.
 //!
-//! Its folder is ROUNDCABINET_LIB, absolute or seen from this crate; by default the place where `rt staticlib` leaves the archive.
+//! Its folder is ROUNDCABINET_LIB, absolute or seen from this crate; by default the place where `scripts/archive` leaves the archive.
 
 use std::env;
 use std::path::PathBuf;
@@ -15,7 +15,7 @@ fn main() {
     println!("cargo::rerun-if-changed={}", archive.display());
     if !archive.is_file() {
         println!("cargo::error={ARCHIVE} is not in {}.", folder.display());
-        println!("cargo::error=Make it with `rt staticlib roundcabinet` at the top of the repository,");
+        println!("cargo::error=Make it with `scripts/archive` at the top of the repository,");
         println!("cargo::error=or set ROUNDCABINET_LIB to the folder that has it.");
         return;
     }

@@ -1,5 +1,5 @@
 //! Where the fields of a saved state stand. The constants are the library's own, from the file that
-//! its save and load are proved with, so that no place is typed a second time here.
+//! its save and load are proved with (build.rs takes it over), so that no place is typed a second time here.
 
 /// 01's limits, as crates/layout names them. A test holds them, and the length of a state that
 /// follows from them, to the header.
@@ -11,4 +11,4 @@ pub mod layout {
     pub const ROOT_LENGTH: usize = 32;
 }
 
-include!(concat!(env!("CARGO_MANIFEST_DIR"), "/../../crates/state_bytes/src/lib.rt"));
+include!(concat!(env!("OUT_DIR"), "/places.rs"));
