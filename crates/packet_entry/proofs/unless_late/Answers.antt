@@ -12,10 +12,10 @@ pub nonce_timeout-requires : goal.nonce_timeout-requires
 nonce_timeout-requires c = nonce_ready _ _ (record { within = c.requires.within; wide = c.requires.wide })
 
 pub returns-in-Nothing : goal.returns-in-Nothing
-returns-in-Nothing c = on_time_did _ _ _ _ _ _ c.timeout_due-due.ensures c.in-Nothing.is c.on_message.ensures
+returns-in-Nothing c = search (rules, on_time_did, nonces_late_did, shares-late-did)
 
 pub returns-in-Nonces : goal.returns-in-Nonces
-returns-in-Nonces c = nonces_late_did _ _ _ _ _ _ c.timeout_due-due.ensures c.in-Nonces.is c.nonce_timeout.ensures
+returns-in-Nonces c = search (rules, on_time_did, nonces_late_did, shares-late-did)
 
 pub returns-in-Shares : goal.returns-in-Shares
 returns-in-Shares c = shares-late-did _ _ _ _ _ _ c.timeout_due-due.ensures _ c.in-Shares.is c.share_timeout.ensures

@@ -13,13 +13,12 @@ use Rattle.packet.proofs.reader.read.Goals as goal
 
 pub returns-then-not-is_laid_out : goal.returns-then-not-is_laid_out
 unfolding reading decode
-returns-then-not-is_laid_out c = rw ((sym c.is_laid_out.ensures ∙ c.if-not-is_laid_out.true))
+returns-then-not-is_laid_out c = grind (arith, common_steps)
 
 pub returns-then-not-is_within : goal.returns-then-not-is_within
 unfolding reading decode
-returns-then-not-is_within c = rw ((sym c.is_laid_out.ensures ∙ c.if-not-is_laid_out.false), (sym c.is_within.ensures ∙ c.if-not-is_within.true))
+returns-then-not-is_within c = grind (arith, common_steps)
 
 pub returns : goal.returns
 unfolding reading decode
-returns c = let l = (sym c.is_laid_out.ensures ∙ c.if-not-is_laid_out.false) in
-    rw (l, (sym c.is_within.ensures ∙ c.if-not-is_within.false)) (ap Packet (c.header.ensures ∙ sym (header-message_in c.args.s.now l)))
+returns c = grind (arith, common_steps, header-message_in c.args.s.now)
