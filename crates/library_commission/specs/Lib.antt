@@ -1,2 +1,0 @@
--- What commissioning gives.
-pub mod Commissioned

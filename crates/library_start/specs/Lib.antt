@@ -1,2 +1,0 @@
--- What a host gives, and what the calls make of it.
-pub mod Given

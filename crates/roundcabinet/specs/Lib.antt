@@ -1,2 +1,0 @@
--- What the library says of itself.
-pub mod Version
