@@ -1,0 +1,2 @@
+-- What commissioning gives.
+pub mod Commissioned

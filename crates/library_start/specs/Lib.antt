@@ -1,0 +1,2 @@
+-- What a host gives, and what the calls make of it.
+pub mod Given
