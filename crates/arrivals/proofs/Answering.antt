@@ -1,26 +1,25 @@
 -- What the writer is given, and the result that was written.
 -- Assumes nothing.
+use Rattle.std.specs.Prelude.{Err, Ok}
 use Prim.Native.Nat.{ℕ, ◌≤◌, ◌<◌}
 use mathlib.Core.Path.{◌≡◌, refl}
 use mathlib.Core.Bool.{true}
 use mathlib.Core.List.{List, []}
 use borrow.Author.Tests.{leb-true, le-leb, le-ltb, lt-ltb}
 use lib.ListN.{length, get_or}
-use Rattle.layout.specs.Limits.{message_limit, signer_limit, record_limit, answer_length}
+use Rattle.layout.specs.Limits.{signer_limit, answer_length}
 use Rattle.layout.specs.Messages.{Arrival}
 use Rattle.layout.specs.Encode.{encode_arrivals}
-use Rattle.framing.specs.declared.Written.{Written}
-use Rattle.framing.specs.Writing.{Wrote, written, writing}
+use Rattle.framing.specs.Writing.{Wrote, written, writing, Written}
 use Rattle.pieces.specs.declared.places.Arrivals.{Arrivals}
 use Rattle.pieces.specs.Places.{arrivals_of}
 use Rattle.writer.specs.Results.{write_arrivals}
 use Rattle.state.specs.declared.fields.Coordinator.{Coordinator}
-use Rattle.state.specs.declared.answers.Passed.{Passed}
-use Rattle.state.specs.declared.answers.Passed.TheVariants.{Yes, No}
 use Rattle.state.specs.Counts.{is_within_limits}
 use Rattle.state.specs.Slots.{collect}
 use Rattle.state.specs.View.{no_row, slots_of, arrival_in}
 use Rattle.state.specs.Turns.{asked, unless}
+use Rattle.state.specs.Passed.{Passed}
 use Rattle.state.proofs.Within.{within, config_few, records_few}
 use Rattle.timeouts.specs.NonceTimeout.{current_place}
 use Rattle.arrivals.specs.Query.{asking_query, QueryReady, current_arrivals, told_turn, arrivals_turn}
@@ -57,5 +56,5 @@ unfolding arrivals_turn told_turn unless
 arrivals_still room s store = by (asked asking_query (length store) room s)
   where
     by : (p : Passed) → (unless p s store (told_turn s store)).after ≡ s
-    by Yes = refl
-    by (No n) = refl
+    by (Ok tt) = refl
+    by (Err n) = refl

@@ -1,35 +1,32 @@
--- One arrival more in a list.
+-- Arrivals as the writer takes them are those of the definition.
 -- Assumes nothing.
-use Prim.Native.Nat.{ℕ, ◌+◌, ◌<◌}
-use mathlib.Core.Path.{◌≡◌, sym}
-use mathlib.Core.Bool.{true, false}
-use mathlib.Core.List.{[], ◌++◌, map, append-nil}
-use native.Mathlib.Numerals.{add-one}
-use native.Mathlib.Omega.{arith}
-use lib.ListN.{length, get_or, set, length-map}
-use lib.Seq.{take-suc-set}
-use Rattle.layout.specs.Limits.{signer_limit}
-use Rattle.pieces.specs.declared.places.Arrivals.{Arrivals}
-use Rattle.pieces.specs.Places.{arrival_of, arrivals_of}
-use Rattle.state.specs.declared.fields.SignRoundInfo.{SignRoundInfo}
+use mathlib.Core.Path.{◌≡◌, refl}
+use mathlib.Core.Bool.{Bool, true, false}
+use mathlib.Core.List.{List, map}
+use Rattle.std.specs.Prelude.{Option, Some}
+use lib.ListN.{get_or}
+use Rattle.pieces.specs.declared.places.Arrival.{Arrival}
+use Rattle.pieces.specs.Places.{arrival_of}
+use Rattle.state.specs.declared.fields.ResponseSlot.{ResponseSlot}
 use Rattle.state.specs.declared.fields.SignerSlot.{SignerSlot}
-use Rattle.state.specs.Slots.{with_some}
+use Rattle.state.specs.Slots.{collect, with_some, when}
 use Rattle.state.specs.View.{arrival_in, no_slot}
-use Rattle.signer_ids.proofs.Listing.{map-set}
+use Rattle.signers.proofs.Walking.{collect-map}
+use Rattle.arrivals.specs.Walks.{arrival_at}
 
-module _ (list : Arrivals) (row : SignRoundInfo) (e : SignerSlot) where
-  pub arrival_none : (get_or row.slots e.slot no_slot).held ≡ false → arrivals_of list ≡ arrivals_of list ++ with_some (arrival_in row.slots e) []
-  unfolding with_some
-  arrival_none h = rw h (sym (append-nil (arrivals_of list)))
+pub arrivals_mapped : (slots : List ResponseSlot) (es : List SignerSlot)
+    → collect (arrival_in slots) es ≡ map arrival_of (collect (arrival_at slots) es)
+unfolding with_some
+arrivals_mapped slots es =
+    collect-map arrival_of (arrival_at slots) (arrival_in slots) es (λ e xs. by (get_or slots e.slot no_slot).held e xs)
+  where
+    by : (b : Bool) (e : SignerSlot) (xs : List Arrival)
+        → with_some (when b (arrival_of (record { signer_id = record { 0 = e.id }; clock = (get_or slots e.slot no_slot).clock }))) (map arrival_of xs)
+        ≡ map arrival_of (with_some (when b (record { signer_id = record { 0 = e.id }; clock = (get_or slots e.slot no_slot).clock })) xs)
+    by true e xs = refl
+    by false e xs = refl
 
-  pub arrival-some :
-      length list.arrivals ≡ signer_limit → list.count < signer_limit → (get_or row.slots e.slot no_slot).held ≡ true
-      → arrivals_of (record {
-        arrivals = set list.arrivals list.count (record { signer_id = record { 0 = e.id }; clock = (get_or row.slots e.slot no_slot).clock });
-        count = list.count + 1;
-      })
-      ≡ arrivals_of list ++ with_some (arrival_in row.slots e) []
-  unfolding with_some arrivals_of
-  arrival-some ten few h =
-      rw (h, add-one list.count, map-set arrival_of list.arrivals list.count _)
-      (take-suc-set (map arrival_of list.arrivals) list.count _ (rw length-map (omega arith)))
+-- the arrival of a response that is held
+pub arrival_there : (slots : List ResponseSlot) (e : SignerSlot) (x : ResponseSlot) → x ≡ get_or slots e.slot no_slot → x.held ≡ true
+    → ◌≡◌ {A = Option Arrival} (Some (record { signer_id = record { 0 = e.id }; clock = x.clock })) (arrival_at slots e)
+arrival_there slots e x is held = rw (← is, held)

@@ -1,2 +1,3 @@
 -- What the query of arrivals gives at the level of struct and store.
 pub mod Query
+pub mod Walks

@@ -7,11 +7,10 @@ ghost use Rattle.pieces.specs.Places.{arrivals_of};
 ghost use Rattle.state.specs.Turns.{Did};
 ghost use Rattle.arrivals.specs.Query.{QueryReady, current_arrivals, told_turn, arrivals_turn};
 
-use framing::Written;
 use pieces::places::Arrivals;
 use signers::order;
 use state::answers;
-use state::answers::{Asks, Class, Done, Passed};
+use state::answers::{Asks, Class, Done};
 use state::fields::Coordinator;
 
 pub mod walks;
@@ -22,14 +21,10 @@ fn current_arrivals(s: Coordinator, store: &[u8]) -> Arrivals
     ensures { (arrivals_of result ≡ current_arrivals s store.now) × (result.count ≤ signer_limit) }
 {
     let r = timeouts::current_place(s, store);
-    let held = s.records;
-    if held.count <= r {
+    if s.records.count <= r {
         return walks::nobody();
     }
-    let row = held.rows[r];
-    let config = s.config;
-    let walked = order::ascending(config);
-    walks::arrivals_along(walked, row)
+    walks::arrivals_along(order::ascending(s.config), s.records.rows[r])
 }
 
 // What the query answers once 4, 5 and 7 are yes.
@@ -37,12 +32,11 @@ fn told(s: Coordinator, store: &[u8], out: &mut [u8]) -> Done
     requires { QueryReady s × (answer_length ≤ length out.old) }
     ensures { Did (told_turn s store.now) out.old result store.now out.new }
 {
-    let list = current_arrivals(s, store);
-    let written = writer::results::write_arrivals(out, list);
+    let written = writer::results::write_arrivals(out, current_arrivals(s, store));
     match written {
-        Written::Bytes(len) => answers::sending(s, Class::Result, len),
+        Ok(len) => answers::sending(s, Class::Result, len),
         // there is room, and the list is short
-        Written::Refused(_) => answers::refused(s, 7),
+        Err(_) => answers::refused(s, 7),
     }
 }
 
@@ -51,16 +45,14 @@ pub fn tell_arrivals(s: Coordinator, store: &[u8], out: &mut [u8]) -> Done
     ensures { Did (arrivals_turn (length out.old) s store.now)
         out.old result store.now out.new }
 {
-    let size = store.len();
-    let room = out.len();
     let asks = Asks {
         no_job: true,
         a_job: false,
         room: true,
     };
-    let passed = answers::before(s, size, room, asks);
+    let passed = answers::before(s, store.len(), out.len(), asks);
     match passed {
-        Passed::No(n) => answers::refused(s, n),
-        Passed::Yes => told(s, store, out),
+        Err(n) => answers::refused(s, n),
+        Ok(()) => told(s, store, out),
     }
 }

@@ -2,48 +2,37 @@
 // signer_packets.rt).
 use crate::{lists, signer_packets, writes};
 use layout::{Header, Ids};
-use packet_in_hand::Opened;
 use script::{print, states, tokens};
 use state_table::State;
 use validity::keys::KeyIds;
 
 fn ids(rt: &impl Print, ids: Ids) {
-    print::field(rt, b", ids ", ids.dkg_id);
-    print::field(rt, b" ", ids.sign_id);
-    print::field(rt, b" ", ids.sign_iter_id);
+    print::field(rt, ", ids ", ids.dkg_id);
+    print::field(rt, " ", ids.sign_id);
+    print::field(rt, " ", ids.sign_iter_id);
 }
 
 fn header(rt: &impl Print, h: Header) {
-    print::field(rt, b"kind ", h.kind as u64);
-    print::field(rt, b", type ", h.signature_type as u64);
-    print::field(rt, b", signer ", h.signer_id as u64);
+    print::field(rt, "kind ", h.kind as u64);
+    print::field(rt, ", type ", h.signature_type as u64);
+    print::field(rt, ", signer ", h.signer_id as u64);
     ids(rt, h.ids);
-    print::field(rt, b", pairs ", h.pairs as u64);
+    print::field(rt, ", pairs ", h.pairs as u64);
 }
 
-// What the reader says of these bytes: refused with a number, or a packet with so many pairs.
-fn answer(rt: &impl Print, s: &[u8], pairs: u16, refusal: u8) {
-    if refusal != 0 {
-        print::field(rt, b"refused ", refusal as u64);
-        return;
+// What the reader says of these bytes: refused with a number, or a packet, which is taken apart.
+pub fn read(rt: &impl Print, s: &[u8]) {
+    match packet_in_hand::open(s) {
+        Ok(packet) => {
+            header(rt, packet.header());
+            lists::all(rt, packet.bytes, packet.kind(), packet.pairs);
+        }
+        Err(refusal) => print::field(rt, "refused ", refusal as u64),
     }
-    let h = frame::header(s);
-    header(rt, h);
-    lists::all(rt, s, h.kind, pairs as usize);
-}
-
-// The packet in hand, taken apart.
-fn tell<'a>(rt: &impl Print, opened: Opened<'a>) {
-    let packet = opened.packet;
-    answer(rt, packet.bytes, packet.pairs, opened.refusal)
-}
-
-pub fn read<'a>(rt: &impl Print, s: &'a [u8]) {
-    tell(rt, packet_in_hand::open(s))
 }
 
 fn yes_or_no(rt: &impl Print, b: bool) {
-    print::either(rt, b, b"yes", b"no");
+    print::either(rt, b, "yes", "no");
 }
 
 // A list of key ids and the set after it: byte 0 says how many bytes the list has.
@@ -59,7 +48,7 @@ fn set_in(s: &[u8]) -> KeyIds {
 fn compare(rt: &impl Print, s: &[u8]) {
     let found = validity::keys::compare(list_in(s), set_in(s));
     yes_or_no(rt, found.same);
-    print::field(rt, b", repeats ", found.repeats as u64);
+    print::field(rt, ", repeats ", found.repeats as u64);
 }
 
 // A state: its number and its type; a third byte is the last of its root.
@@ -78,11 +67,11 @@ fn root_in(s: &[u8]) -> [u8; layout::ROOT_LENGTH] {
 fn moves(rt: &impl Print, s: &[u8]) {
     let to = wire::part(s, 3, 3);
     if 14 < wire::byte(s, 0) || 14 < wire::byte(to, 0) {
-        print::text(rt, b"not run: no state is above 14");
+        print::text(rt, "not run: no state is above 14");
         return;
     }
     if 3 < wire::byte(s, 1) || 3 < wire::byte(to, 1) {
-        print::text(rt, b"not run: no signature type is above 3");
+        print::text(rt, "not run: no signature type is above 3");
         return;
     }
     yes_or_no(
@@ -93,12 +82,23 @@ fn moves(rt: &impl Print, s: &[u8]) {
 
 // The letters that name a case.
 pub fn is_letter(b: u8) -> bool {
-    match b {
-        b'R' | b'V' | b'K' | b'M' => true,
-        b'2' | b'4' => true,
-        b'N' | b'S' | b'J' | b'T' | b'I' | b'A' | b'5' | b'6' | b'7' => true,
-        _ => false,
-    }
+    matches!(
+        b,
+        b'R' | b'V'
+            | b'K'
+            | b'M'
+            | b'2'
+            | b'4'
+            | b'N'
+            | b'S'
+            | b'J'
+            | b'T'
+            | b'I'
+            | b'A'
+            | b'5'
+            | b'6'
+            | b'7'
+    )
 }
 
 // The case that a letter names.

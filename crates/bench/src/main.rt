@@ -15,16 +15,14 @@ use script::{cases, lines, print, tokens};
 // Runs the case on a line.
 fn run_line(rt: &impl Print, line: &[u8], long: bool, store: &[u8; layout::STORE_LENGTH]) {
     cases::label(rt, line);
-    print::text(rt, b": ");
+    print::text(rt, ": ");
     let mut args = [0u8; tokens::CASE_LENGTH];
     let letter = wire::byte(line, 0);
-    let case = cases::read(line, long, answers::is_letter(letter), &mut args);
-    if case.fault == tokens::FINE {
-        answers::run(rt, letter, &args, case.made, store);
-    } else {
-        cases::tell(rt, case.fault);
+    match cases::read(line, long, answers::is_letter(letter), &mut args) {
+        Ok(made) => answers::run(rt, letter, &args, made, store),
+        Err(fault) => cases::tell(rt, &fault),
     }
-    print::text(rt, b"\n");
+    print::text(rt, "\n");
 }
 
 // A line that has ended is run.
@@ -38,7 +36,7 @@ fn run_ended(
         return line;
     }
     run_line(rt, wire::part(kept, 0, line.len), line.long, store);
-    lines::empty()
+    Line::empty()
 }
 
 fn run_piece(
@@ -49,12 +47,8 @@ fn run_piece(
     store: &[u8; layout::STORE_LENGTH],
 ) -> Line {
     let mut next = line;
-    let mut i: usize = 0;
-    while i < piece.len() {
-        let to = lines::after(piece, i, b'\n');
-        next = lines::gather(next, piece, i, to, kept);
-        next = run_ended(rt, next, kept, store);
-        i = to;
+    for part in piece.split_inclusive(|b| *b == b'\n') {
+        next = run_ended(rt, next.gather(part, kept), kept, store);
     }
     next
 }
@@ -78,14 +72,15 @@ fn main(rt: HostRuntime) {
     let mut kept = [0u8; LINE_LENGTH];
     let mut piece = [0u8; lines::PIECE_LENGTH];
     let mut reader = rt.reader();
-    let mut line = lines::empty();
+    let mut line = Line::empty();
     let mut ended = false;
-    let mut left = lines::PIECES;
-    while 0 < left {
+    for _ in 0..lines::PIECES {
         let got = lines::read_full(&mut reader, &mut piece);
         line = run_piece(&rt, wire::part(&piece, 0, got), line, &mut kept, &store);
         ended = got < lines::PIECE_LENGTH;
-        left = if ended { 0 } else { left - 1 };
+        if ended {
+            break;
+        }
     }
     finish(&rt, line, ended, &kept, &store);
 }

@@ -36,28 +36,23 @@ fn rest(s: &[u8], at: usize) -> &[u8] {
 // The numbers in the first bytes of s.
 fn numbers(s: &[u8]) -> [u32; ROOM] {
     let mut list = [0u32; ROOM];
-    let mut i: usize = 0;
-    while i < ROOM {
-        list[i] = wire::u32_at(s, ID_LENGTH * i);
-        i += 1;
+    for (i, number) in list.iter_mut().enumerate() {
+        *number = wire::u32_at(s, ID_LENGTH * i);
     }
     list
 }
 
 // The first n numbers of a list, as many of them as there are.
 fn first(list: &[u32], n: usize) -> &[u32] {
-    if list.len() < n {
-        return list;
-    }
-    &list[0..n]
+    &list[..n.min(list.len())]
 }
 
 fn tell_room(rt: &impl Print) {
-    print::text(rt, b"not run: no list of numbers is longer than 40");
+    print::text(rt, "not run: no list of numbers is longer than 40");
 }
 
 fn tell_lists(rt: &impl Print) {
-    print::text(rt, b"not run: the lists are not as long as the case says");
+    print::text(rt, "not run: the lists are not as long as the case says");
 }
 
 fn nonce_response(rt: &impl Print, s: &[u8], out: &mut [u8]) {

@@ -2,12 +2,14 @@
 // key ids and nonces 1,120 bytes apart from 256 on, share lists of 640 bytes from 45,824 on.
 use crate::answers;
 use body::RequestHead;
-use framing::Written;
 use job::{JobPlace, JobPlaces};
 use layout::{Ids, SignerId};
 use pieces::places::{Arrival, Arrivals, Place, ResponsePlace, ResponsePlaces, SignerIds};
 use script::print;
 use writer::{dkg, results};
+
+// The ten signers of a case.
+const TEN: [u8; layout::SIGNER_LIMIT] = [0, 1, 2, 3, 4, 5, 6, 7, 8, 9];
 
 // A number of a case, in the two bytes at `at`.
 fn number(s: &[u8], at: usize) -> usize {
@@ -53,20 +55,8 @@ fn response_place(s: &[u8], i: u8) -> ResponsePlace {
 
 // Ten places, of which some count.
 fn response_places(s: &[u8]) -> ResponsePlaces {
-    let places = [
-        response_place(s, 0),
-        response_place(s, 1),
-        response_place(s, 2),
-        response_place(s, 3),
-        response_place(s, 4),
-        response_place(s, 5),
-        response_place(s, 6),
-        response_place(s, 7),
-        response_place(s, 8),
-        response_place(s, 9),
-    ];
     ResponsePlaces {
-        places,
+        places: TEN.map(|i| response_place(s, i)),
         count: number(s, 5),
     }
 }
@@ -86,20 +76,8 @@ fn job_place(s: &[u8], i: u8) -> JobPlace {
 }
 
 fn job_places(s: &[u8]) -> JobPlaces {
-    let places = [
-        job_place(s, 0),
-        job_place(s, 1),
-        job_place(s, 2),
-        job_place(s, 3),
-        job_place(s, 4),
-        job_place(s, 5),
-        job_place(s, 6),
-        job_place(s, 7),
-        job_place(s, 8),
-        job_place(s, 9),
-    ];
     JobPlaces {
-        places,
+        places: TEN.map(|i| job_place(s, i)),
         count: number(s, 5),
     }
 }
@@ -107,18 +85,7 @@ fn job_places(s: &[u8]) -> JobPlaces {
 // Ten signers, of which so many count as the number at `at` says.
 fn signers(s: &[u8], at: usize) -> SignerIds {
     SignerIds {
-        ids: [
-            SignerId(0),
-            SignerId(3),
-            SignerId(6),
-            SignerId(9),
-            SignerId(12),
-            SignerId(15),
-            SignerId(18),
-            SignerId(21),
-            SignerId(24),
-            SignerId(27),
-        ],
+        ids: TEN.map(|i| SignerId(3 * (i as u32))),
         count: number(s, at),
     }
 }
@@ -133,26 +100,19 @@ fn arrival(s: &[u8], i: u8) -> Arrival {
 }
 
 fn arrivals(s: &[u8]) -> Arrivals {
-    let all = [
-        arrival(s, 0),
-        arrival(s, 1),
-        arrival(s, 2),
-        arrival(s, 3),
-        arrival(s, 4),
-        arrival(s, 5),
-        arrival(s, 6),
-        arrival(s, 7),
-        arrival(s, 8),
-        arrival(s, 9),
-    ];
     Arrivals {
-        arrivals: all,
+        arrivals: TEN.map(|i| arrival(s, i)),
         count: number(s, 3),
     }
 }
 
 // The packet that a case's letter names.
-fn write(letter: u8, s: &[u8], store: &[u8; layout::STORE_LENGTH], out: &mut [u8]) -> Written {
+fn write(
+    letter: u8,
+    s: &[u8],
+    store: &[u8; layout::STORE_LENGTH],
+    out: &mut [u8],
+) -> Result<usize, u8> {
     let h = head(s);
     let text = wire::part(store, 0, number(s, 3));
     let id = wire::u16_at(s, 3) as u64;
@@ -172,30 +132,30 @@ fn write(letter: u8, s: &[u8], store: &[u8; layout::STORE_LENGTH], out: &mut [u8
 // What the reader says of a packet that it may read.
 fn read_back(rt: &impl Print, out: &[u8], n: usize) {
     if wire::byte(out, 0) < 8 {
-        print::text(rt, b"\n  ");
+        print::text(rt, "\n  ");
         answers::read(rt, wire::part(out, 0, n));
     }
 }
 
 // The answer, a sum over the whole buffer, and what the reader says of the packet.
-pub fn show(rt: &impl Print, w: Written, out: &[u8]) {
+pub fn show(rt: &impl Print, w: Result<usize, u8>, out: &[u8]) {
     match w {
-        Written::Bytes(n) => {
-            print::field(rt, b"", n as u64);
-            print::text(rt, b" bytes, ");
+        Ok(n) => {
+            print::field(rt, "", n as u64);
+            print::text(rt, " bytes, ");
             print::sum(rt, out);
             read_back(rt, out, n);
         }
-        Written::Refused(n) => {
-            print::field(rt, b"refused ", n as u64);
-            print::text(rt, b", ");
+        Err(n) => {
+            print::field(rt, "refused ", n as u64);
+            print::text(rt, ", ");
             print::sum(rt, out);
         }
     }
 }
 
 pub fn tell_buffer(rt: &impl Print) {
-    print::text(rt, b"not run: no buffer is longer than 19240 bytes");
+    print::text(rt, "not run: no buffer is longer than 19240 bytes");
 }
 
 // A buffer eight bytes longer than an answer needs, of which the case lends a part.
@@ -207,7 +167,7 @@ pub fn run(rt: &impl Print, letter: u8, s: &[u8], store: &[u8; layout::STORE_LEN
         return;
     }
     if 3 < wire::byte(s, 0) {
-        print::text(rt, b"not run: no signature type is above 3");
+        print::text(rt, "not run: no signature type is above 3");
         return;
     }
     let part = &mut out[0..n];

@@ -6,7 +6,6 @@ use mathlib.Core.Bool.{Bool, true, false, ◌&&◌}
 use mathlib.Core.List.{List, [], ◌∷◌}
 use lib.Dec.{leb}
 use lib.ListN.{length, replicate}
-use Rattle.wire.specs.Bytes.{every}
 use Rattle.wire.proofs.Lists.{and_left}
 use Rattle.layout.specs.Limits.{message_limit, signer_limit}
 use Rattle.state_table.specs.declared.State.{State}
@@ -76,7 +75,7 @@ no_flags : (es : List SignerSlot) → collect (flagged_in (replicate signer_limi
 no_flags es = collect_none (flagged_in (replicate signer_limit false)) es (λ e. rw (get_d_same signer_limit e.slot false))
 
 reset-within : (s : Coordinator) → is_within_limits s ≡ true → is_within_limits (forgotten (abandoned s)) ≡ true
-unfolding forgotten abandoned is_within_limits records_within every shares_within
+unfolding forgotten abandoned is_within_limits records_within shares_within
 reset-within s w =
     let a = config_within s.config in
     let b = leb s.message.len message_limit in
@@ -86,7 +85,7 @@ reset-within s w =
 pub reset_refines :
     (clock room : ℕ) (verdict : Bool) (s : Coordinator) (store : List ℕ)
     → Refines (reset_turn s store) (step (calling clock room verdict s store A.reset) (view s store))
-unfolding step_of asks own reset_turn asked asked_if coordinator_of standing_of round_of rows_from position_of root_bytes reading forgotten abandoned
+unfolding step_of asks own reset_turn asked asked_if coordinator_of standing_of round_of rows_from position_of root_bytes forgotten abandoned
 reset_refines clock room verdict s store =
     on_held_law (calling clock room verdict s store A.reset) A.reset asks_nothing refl s store _ refl
     (λ b w. record {

@@ -1,8 +1,7 @@
 -- `reset`: a round is abandoned, then key generation's end is forgotten. The records' bytes stay in the store, where nobody looks at them.
-use Rattle.std.specs.Prelude.{ℕ, false, List, length, replicate}
+use Rattle.std.specs.Prelude.{ℕ, false, List, length, replicate, None}
 use Rattle.layout.specs.Limits.{signer_limit}
 use Rattle.state_table.specs.declared.State.TheVariants.{Idle}
-use Rattle.state.specs.declared.fields.Reading.TheVariants.{Never}
 use Rattle.step_definition.specs.Calls as A
 use Rattle.state.specs.declared.answers.Asks.{Asks}
 use Rattle.state.specs.declared.fields.Coordinator.{Coordinator}
@@ -14,7 +13,7 @@ use Rattle.state.specs.Replaced.{none_held}
 unfoldable pub abandoned : Coordinator → Coordinator
 abandoned s =
     set_job false
-    (set_clocks (record { nonce_start = Never; sign_start = Never })
+    (set_clocks (record { nonce_start = None; sign_start = None })
     (set_shares none_held
     (set_records (record { rows = s.records.rows; count = 0 })
     (set_position (record { state = Idle; root = s.position.root }) s))))

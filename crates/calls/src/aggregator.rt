@@ -6,17 +6,17 @@ ghost use Rattle.calls.specs.Calls.{kind_of, without_job, signed, aggregated_tur
 
 use layout::{ResultKind, SignatureType};
 use state::answers;
-use state::answers::{Asks, Done, Passed};
+use state::answers::{Asks, Done};
 use state::fields::{Coordinator, Position};
-use state_table::{State, StateType};
+use state_table::State;
 
 // A state without a type gives the result kind of type 0.
-fn type_or(found: StateType) -> SignatureType
+fn type_or(found: Option<SignatureType>) -> SignatureType
     ensures { result ≡ type_or found }
 {
     match found {
-        StateType::Untyped => SignatureType::Frost,
-        StateType::Typed(t) => t,
+        None => SignatureType::Frost,
+        Some(t) => t,
     }
 }
 
@@ -34,57 +34,45 @@ fn result_number(kind: ResultKind) -> u64
 fn kind_of(state: State) -> u64
     ensures { result ≡ kind_of state }
 {
-    let found = state_table::type_in(state);
-    let t = type_or(found);
-    let kind = layout::result_kind(t);
-    result_number(kind)
+    result_number(layout::result_kind(type_or(state_table::type_in(state))))
 }
 
 fn to_idle(s: Coordinator) -> Coordinator
     ensures { result ≡ signed s }
 {
-    let position = s.position;
-    let root = position.root;
-    let idle = Position {
-        state: State::Idle,
-        root,
-    };
-    let mut t = s;
-    t.position = idle;
-    t.job = false;
-    t
+    Coordinator {
+        position: Position {
+            state: State::Idle,
+            ..s.position
+        },
+        job: false,
+        ..s
+    }
 }
 
 fn drop_job(s: Coordinator) -> Coordinator
     ensures { result ≡ without_job s }
 {
-    let mut t = s;
-    t.job = false;
-    t
+    Coordinator { job: false, ..s }
 }
 
 pub fn aggregated(s: Coordinator, store: &[u8], ok: bool) -> Done
     ensures { Did (aggregated_turn ok s store.now) [] result store.now [] }
 {
-    let size = store.len();
     let asks = Asks {
         no_job: false,
         a_job: true,
         room: false,
     };
-    let passed = answers::before(s, size, 0, asks);
+    let passed = answers::before(s, store.len(), 0, asks);
     match passed {
-        Passed::No(n) => answers::refused(s, n),
-        Passed::Yes => {
-            if !ok {
-                let t = drop_job(s);
-                answers::failed(t, 23)
+        Err(n) => answers::refused(s, n),
+        Ok(()) => {
+            if ok {
+                let after = to_idle(s);
+                answers::telling(after, kind_of(s.position.state))
             } else {
-                let position = s.position;
-                let state = position.state;
-                let kind = kind_of(state);
-                let t = to_idle(s);
-                answers::telling(t, kind)
+                answers::failed(drop_job(s), 23)
             }
         }
     }

@@ -4,7 +4,7 @@ ghost use Rattle.state.specs.Turns.{Did};
 ghost use Rattle.calls.specs.Calls.{keys_with, set_key_turn};
 
 use state::answers;
-use state::answers::{Asks, Done, Passed};
+use state::answers::{Asks, Done};
 use state::fields::{Coordinator, Keys};
 
 #[derive(Clone, Copy)]
@@ -19,11 +19,11 @@ fn with_key(keys: Keys, which: HeldKey, held: bool) -> Keys
     match which {
         HeldKey::Coordinator => Keys {
             coordinator: held,
-            aggregate: keys.aggregate,
+            ..keys
         },
         HeldKey::Aggregate => Keys {
-            coordinator: keys.coordinator,
             aggregate: held,
+            ..keys
         },
     }
 }
@@ -31,21 +31,17 @@ fn with_key(keys: Keys, which: HeldKey, held: bool) -> Keys
 pub fn set_key(s: Coordinator, store: &[u8], which: HeldKey, held: bool) -> Done
     ensures { Did (set_key_turn which held s store.now) [] result store.now [] }
 {
-    let size = store.len();
     let asks = Asks {
         no_job: true,
         a_job: false,
         room: false,
     };
-    let passed = answers::before(s, size, 0, asks);
+    let passed = answers::before(s, store.len(), 0, asks);
     match passed {
-        Passed::No(n) => answers::refused(s, n),
-        Passed::Yes => {
-            let old = s.keys;
-            let keys = with_key(old, which, held);
-            let mut t = s;
-            t.keys = keys;
-            answers::quiet(t)
-        }
+        Err(n) => answers::refused(s, n),
+        Ok(()) => answers::quiet(Coordinator {
+            keys: with_key(s.keys, which, held),
+            ..s
+        }),
     }
 }

@@ -4,27 +4,23 @@ ghost use Rattle.state.specs.Turns.{Did};
 ghost use Rattle.calls.specs.Calls.{move_turn};
 
 use state::answers;
-use state::answers::{Asks, Done, Passed};
+use state::answers::{Asks, Done};
 use state::fields::Coordinator;
 use state_table::State;
 
 pub fn can_move_to(s: Coordinator, store: &[u8], next: State, root: [u8; 32]) -> Done
     ensures { Did (move_turn next root s store.now) [] result store.now [] }
 {
-    let size = store.len();
     let asks = Asks {
         no_job: true,
         a_job: false,
         room: false,
     };
-    let passed = answers::before(s, size, 0, asks);
+    let passed = answers::before(s, store.len(), 0, asks);
     match passed {
-        Passed::No(n) => answers::refused(s, n),
-        Passed::Yes => {
-            let position = s.position;
-            let prev = position.state;
-            let prev_root = position.root;
-            if state_table::can_move_to(prev, prev_root, next, root) {
+        Err(n) => answers::refused(s, n),
+        Ok(()) => {
+            if state_table::can_move_to(s.position.state, s.position.root, next, root) {
                 answers::telling(s, 1)
             } else {
                 answers::telling(s, 0)

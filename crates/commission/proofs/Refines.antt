@@ -1,17 +1,16 @@
 -- Commissioning gives what the step says, whatever was held before.
 -- Assumes nothing.
+use Rattle.std.specs.Prelude.{Err, Ok}
 use Prim.Native.Nat.{ℕ}
 use mathlib.Core.Path.{◌≡◌, refl, ap, ◌∙◌}
 use mathlib.Core.Bool.{Bool, true, false, cond}
 use mathlib.Core.List.{List, []}
 use lib.ListN.{length, replicate}
-use Rattle.wire.specs.Bytes.{every}
 use Rattle.layout.specs.Limits.{signer_limit}
 use Rattle.step_definition.specs.Configuration as D
 use Rattle.step_definition.specs.Coordinator as C
 use Rattle.step_definition.specs.Calls as A
 use Rattle.step_definition.specs.Step.{on_commission, step_of, step}
-use Rattle.state.specs.declared.answers.Passed.TheVariants.{Yes, No}
 use Rattle.state.specs.declared.fields.Config.{Config}
 use Rattle.state.specs.Slots.{collect}
 use Rattle.state.specs.Counts.{config_within, records_within, is_within_limits}
@@ -31,19 +30,19 @@ use Rattle.commission.specs.Commission.{no_records, no_marks, no_message, at_idl
 
 -- a fresh struct passes question 4 where its configuration does
 fresh-within : (g : Config) → config_within g ≡ true → is_within_limits (fresh_with true g) ≡ true
-unfolding records_within every no_records no_message
+unfolding records_within no_records no_message
 fresh-within g w = is_within (fresh_with true g) (record { config = w; message = refl; records = refl; shares = no_shares-within g.count })
 
 -- it stands for a fresh coordinator, at any store
 fresh-viewed : (g : Config) (store : List ℕ) → coordinator_of (fresh_with true g) store ≡ C.fresh (config_of g)
-unfolding coordinator_of standing_of round_of rows_from position_of root_bytes reading no_records no_marks no_message at_idle
+unfolding coordinator_of standing_of round_of rows_from position_of root_bytes no_records no_marks no_message at_idle
 fresh-viewed g store = rw (nobody, no_shares_law (slots_of g) store)
   where
     nobody : collect (flagged_in (replicate signer_limit false)) (slots_of g) ≡ []
     nobody = collect_none (flagged_in (replicate signer_limit false)) (slots_of g) (λ e. rw (get_d_same signer_limit e.slot false))
 
 -- a configuration that is accepted: its struct passes question 4, and stands for the fresh coordinator of that configuration, ascending
-module _ (g : NewConfig) (long : length g.signers ≡ 11) (yes_all : new_asked (new_config_of g) ≡ Yes) where
+module _ (g : NewConfig) (long : length g.signers ≡ 11) (yes_all : new_asked (new_config_of g) ≡ (Ok tt)) where
   pub fresh_counts : is_within_limits (fresh_of g) ≡ true
   unfolding fresh_of
   fresh_counts = fresh-within (config_from g) (kept_within g long (accepted g long yes_all) (asked_all (new_config_of g) yes_all).2)
@@ -62,13 +61,13 @@ module _ (g : NewConfig) (store : List ℕ) (long : length g.signers ≡ 11) whe
   abbrev rest : Turn
   rest = turn A.plain (fresh_of g) (replicate (length store) 0)
 
-  refuses : (k : ℕ) → Refines (unless (No k) uncommissioned_struct store rest) (A.outcome (A.refusing A.error k []) [] C.uncommissioned)
+  refuses : (k : ℕ) → Refines (unless (Err k) uncommissioned_struct store rest) (A.outcome (A.refusing A.error k []) [] C.uncommissioned)
   unfolding unless view held_if uncommissioned_struct
   refuses k = record { answer = refl; events = refl; after = refl }
 
   commissions :
       D.question1 n ≡ true → D.question2 n ≡ true → D.question3 n ≡ true
-      → Refines (unless Yes uncommissioned_struct store rest) (A.outcome A.plain [] (C.commissioned (C.fresh (D.ascending n))))
+      → Refines (unless (Ok tt) uncommissioned_struct store rest) (A.outcome A.plain [] (C.commissioned (C.fresh (D.ascending n))))
   unfolding unless new_asked
   commissions a b c = record { answer = refl; events = refl; after = fresh_stands g long (rw (a, b, c)) (replicate (length store) 0) }
 
@@ -80,7 +79,7 @@ module _ (g : NewConfig) (store : List ℕ) (long : length g.signers ≡ 11) whe
     where
       by :
           (a b c : Bool) → D.question1 n ≡ a → D.question2 n ≡ b → D.question3 n ≡ c
-          → Refines (unless (cond a (cond b (cond c Yes (No 3)) (No 2)) (No 1)) uncommissioned_struct store rest)
+          → Refines (unless (cond a (cond b (cond c (Ok tt) (Err 3)) (Err 2)) (Err 1)) uncommissioned_struct store rest)
           (cond a
           (cond b
           (cond c (A.outcome A.plain [] (C.commissioned (C.fresh (D.ascending n)))) (A.outcome (A.refusing A.error 3 []) [] C.uncommissioned))

@@ -1,11 +1,10 @@
 -- Commissioning at the level of struct and store. "After 1 to 3 the state is uncommissioned and the store untouched. Otherwise the whole
 -- lent store, however long, is zeroed and the fields are those that the Rust's `new` gives: Idle, ids 0, nothing held, nobody struck."
-use Rattle.std.specs.Prelude.{ℕ, Bool, true, false, List, length, replicate}
+use Rattle.std.specs.Prelude.{ℕ, Bool, true, false, List, length, replicate, None}
 use Rattle.layout.specs.Limits.{message_limit, signer_limit, record_limit}
 use Rattle.layout.specs.Encode.{no_ids}
 use Rattle.state_table.specs.declared.State.TheVariants.{Idle}
 use Rattle.step_definition.specs.Calls as A
-use Rattle.state.specs.declared.fields.Reading.TheVariants.{Never}
 use Rattle.state.specs.declared.fields.Config.{Config}
 use Rattle.state.specs.declared.fields.SignRoundInfo.{SignRoundInfo}
 use Rattle.state.specs.declared.fields.Records.{Records}
@@ -47,7 +46,7 @@ fresh_with held g =
       records = no_records;
       shares = none_held;
       marks = no_marks;
-      clocks = record { nonce_start = Never; sign_start = Never };
+      clocks = record { nonce_start = None; sign_start = None };
       keys = record { coordinator = false; aggregate = false };
       job = false;
     }

@@ -4,90 +4,89 @@ ghost use Rattle.commission.specs.Commission.{no_records, no_marks, at_idle, no_
 
 use layout::{Ids, MESSAGE_LIMIT, RECORD_LIMIT, ROOT_LENGTH, SIGNER_LIMIT};
 use state::fields::{
-    Clocks, Config, Coordinator, Keys, Marks, Message, Position, Reading, Records, ResponseSlot,
+    Clocks, Config, Coordinator, Keys, Marks, Message, Position, Records, ResponseSlot,
     SignRoundInfo,
 };
 use state_table::State;
 
+const NO_IDS: Ids = Ids {
+    dkg_id: 0,
+    sign_id: 0,
+    sign_iter_id: 0,
+};
+
+#[tactic(auto, unfolding(crate::specs::Commission::no_records))]
 fn no_records() -> Records
     ensures { result ≡ no_records }
 {
-    let ids = Ids {
-        dkg_id: 0,
-        sign_id: 0,
-        sign_iter_id: 0,
-    };
     let slot = ResponseSlot {
         held: false,
         waits: false,
-        ids,
+        ids: NO_IDS,
         key_ids: 0,
         nonces: 0,
         clock: 0,
     };
-    let slots = [slot; SIGNER_LIMIT];
-    let row = SignRoundInfo { message: 0, slots };
-    let rows = [row; RECORD_LIMIT];
-    Records { rows, count: 0 }
+    let row = SignRoundInfo {
+        message: 0,
+        slots: [slot; SIGNER_LIMIT],
+    };
+    Records {
+        rows: [row; RECORD_LIMIT],
+        count: 0,
+    }
 }
 
+#[tactic(auto, unfolding(crate::specs::Commission::no_marks))]
 fn nobody() -> Marks
     ensures { result ≡ no_marks }
 {
-    let ended = [false; SIGNER_LIMIT];
-    let malicious = [false; SIGNER_LIMIT];
-    Marks { ended, malicious }
+    Marks {
+        ended: [false; SIGNER_LIMIT],
+        malicious: [false; SIGNER_LIMIT],
+    }
 }
 
+#[tactic(auto, unfolding(crate::specs::Commission::no_message))]
 fn no_message() -> Message
     ensures { result ≡ no_message }
 {
-    let bytes: [u8; MESSAGE_LIMIT] = [0; MESSAGE_LIMIT];
-    Message { bytes, len: 0 }
+    Message {
+        bytes: [0; MESSAGE_LIMIT],
+        len: 0,
+    }
 }
 
+#[tactic(auto, unfolding(crate::specs::Commission::at_idle))]
 fn idle() -> Position
     ensures { result ≡ at_idle }
 {
-    let root: [u8; ROOT_LENGTH] = [0; ROOT_LENGTH];
     Position {
         state: State::Idle,
-        root,
+        root: [0; ROOT_LENGTH],
     }
 }
 
 pub fn fresh(commissioned: bool, config: Config) -> Coordinator
     ensures { result ≡ fresh_with commissioned config }
 {
-    let records = no_records();
-    let shares = state::replaced::no_shares();
-    let marks = nobody();
-    let message = no_message();
-    let position = idle();
-    let ids = Ids {
-        dkg_id: 0,
-        sign_id: 0,
-        sign_iter_id: 0,
-    };
-    let clocks = Clocks {
-        nonce_start: Reading::Never,
-        sign_start: Reading::Never,
-    };
-    let keys = Keys {
-        coordinator: false,
-        aggregate: false,
-    };
     Coordinator {
         commissioned,
         config,
-        ids,
-        position,
-        message,
-        records,
-        shares,
-        marks,
-        clocks,
-        keys,
+        ids: NO_IDS,
+        position: idle(),
+        message: no_message(),
+        records: no_records(),
+        shares: state::replaced::no_shares(),
+        marks: nobody(),
+        clocks: Clocks {
+            nonce_start: None,
+            sign_start: None,
+        },
+        keys: Keys {
+            coordinator: false,
+            aggregate: false,
+        },
         job: false,
     }
 }

@@ -11,7 +11,7 @@ ghost use Rattle.commission.specs.Commission.{commission_turn};
 use configuration::new_config::NewConfig;
 use configuration::{made, questions};
 use state::answers;
-use state::answers::{Done, Passed};
+use state::answers::Done;
 
 // Asked nothing else: any store, of any length, and a job may be out.
 pub fn commission(g: NewConfig, store: &mut [u8]) -> Done
@@ -19,16 +19,10 @@ pub fn commission(g: NewConfig, store: &mut [u8]) -> Done
 {
     let passed = questions::questions(g);
     match passed {
-        Passed::No(n) => {
-            let blank = made::blank_config();
-            let s = fresh::fresh(false, blank);
-            answers::refused(s, n)
-        }
-        Passed::Yes => {
-            let config = made::config_of(g);
-            let s = fresh::fresh(true, config);
+        Err(n) => answers::refused(fresh::fresh(false, made::blank_config()), n),
+        Ok(()) => {
             store::zero(store);
-            answers::quiet(s)
+            answers::quiet(fresh::fresh(true, made::config_of(g)))
         }
     }
 }

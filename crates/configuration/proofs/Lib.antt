@@ -4,6 +4,5 @@ pub mod Walks
 pub mod Given
 pub mod Sets
 pub mod Placing
-pub mod KeySet
 pub mod Asked
 pub mod Viewed

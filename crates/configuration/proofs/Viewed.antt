@@ -1,10 +1,10 @@
 -- A configuration as it is kept stands for the one that was given, ascending; its counts are within the limits.
 -- Assumes nothing.
-use Prim.Native.Nat.{ℕ, zero, suc, ◌+◌, ◌-◌, ◌<◌, ◌≤◌}
+use Prim.Native.Nat.{ℕ, suc, ◌+◌, ◌-◌, ◌<◌, ◌≤◌}
 use mathlib.Core.Path.{◌≡◌, refl, sym, ap, ◌∙◌}
 use mathlib.Core.Bool.{Bool, true, false, cond, not}
 use mathlib.Core.List.{List, [], ◌∷◌, map, map-append}
-use mathlib.Core.Option.{Option, some}
+use Rattle.std.specs.Prelude.{Option, Some}
 use native.Mathlib.Nat.{zero-add}
 use native.Mathlib.Omega.{arith}
 use borrow.Author.Tests.{eqb-true, le-leb, leb-true}
@@ -31,12 +31,12 @@ use Rattle.configuration.specs.declared.new_config.NewConfig.{NewConfig}
 use Rattle.configuration.specs.NewConfig.{numbers_in, timeouts_given, signer_given, signers_given, new_config_of, signer_number, keys_given, set_size, is_set_within, Accepted}
 use Rattle.configuration.specs.Made.{placed, entry_of, config_from}
 use Rattle.configuration.proofs.Sets.{keys_few}
-use Rattle.configuration.proofs.Asked.{signers_few, total_given}
+use Rattle.configuration.proofs.Asked.{signers_asked, total_given}
 
 -- a signer with an id that no slot has: it is inserted in its place
 module _ (ss : List SignerEntry) where
   abbrev listing : SignerSlot → Option D.SignerConfig
-  listing e = some (signer_in ss e)
+  listing e = Some (signer_in ss e)
 
   place-inserts :
       (e : SignerSlot) (es : List SignerSlot) → All (λ (x : SignerSlot). x.id ≡ e.id → ⊥) es
@@ -132,7 +132,6 @@ sizes_kept [] = omega arith
 sizes_kept (s ∷ ss) = omega (arith, size_kept s, sizes_kept ss)
 
 sets_kept : (ss : List NewSigner) → every is_set_within ss ≡ true → every entry_within (map entry_of ss) ≡ true
-unfolding every
 sets_kept [] h = refl
 sets_kept (s ∷ ss) h =
     and_both (entry_within (entry_of s)) (every entry_within (map entry_of ss)) (set_kept s (and_left (is_set_within s) (every is_set_within ss) h))
@@ -160,7 +159,7 @@ module _ (g : NewConfig) (long : length g.signers ≡ 11) (ok : Accepted g) wher
       → collect (listing (config_from g).signers) (slots_from 0 (map entry_id (entries (config_from g)))) ≡ D.ascending_signers (map signer_given (signers_given g))
   kept_signers q =
       let es = map entry_of (signers_given g) in
-      let apart : distinct (map entry_id es) ≡ true = rw (ids_kept (signers_given g)) (sym (signers_few g ok.few) ∙ q) in
+      let apart : distinct (map entry_id es) ≡ true = rw (ids_kept (signers_given g)) (and_right _ _ (sym (signers_asked g) ∙ q)) in
       rw entries_kept (collect-slots (config_from g).signers 0 es slot apart ∙ in_order (signers_given g))
 
   pub kept_viewed : D.question1 (new_config_of g) ≡ true → config_of (config_from g) ≡ D.ascending (new_config_of g)

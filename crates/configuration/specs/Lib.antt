@@ -1,4 +1,3 @@
 -- The configuration that a host gives, and how it is kept.
 pub mod NewConfig
-pub mod KeySet
 pub mod Made

@@ -1,10 +1,9 @@
 -- The configuration as it is kept: the signers in the slots in the order given, "each key set ascending"; what is past the counts holds 0.
-use Rattle.std.specs.Prelude.{ℕ, ◌-◌, false, List, [], ◌++◌, map, length, take, replicate}
+use Rattle.std.specs.Prelude.{ℕ, ◌-◌, false, List, [], ◌++◌, map, length, take, replicate, None}
 use Rattle.layout.specs.Limits.{signer_limit}
 use Rattle.validity.specs.declared.keys.KeyIds.{KeyIds}
 use Rattle.validity.specs.Keys.{key_places}
 use Rattle.step_definition.specs.Ids.{insert_all}
-use Rattle.state.specs.declared.fields.Reading.TheVariants.{Never}
 use Rattle.state.specs.declared.fields.Timeouts.{Timeouts}
 use Rattle.state.specs.declared.fields.SignerEntry.{SignerEntry}
 use Rattle.state.specs.declared.fields.Config.{Config}
@@ -41,7 +40,7 @@ config_from g =
     }
 
 abbrev pub no_timeouts : Timeouts
-no_timeouts = record { dkg_public = Never; dkg_private = Never; dkg_end = Never; nonce = Never; sign = Never }
+no_timeouts = record { dkg_public = None; dkg_private = None; dkg_end = None; nonce = None; sign = None }
 
 -- all zeros, no timeout
 unfoldable pub blank_config : Config

@@ -1,13 +1,12 @@
 -- The configuration that a host gives, in the step definition's terms: of each array the first `count` places, in the order given. A count
 -- beyond the array takes all its places, one more than the limit, and is refused just so.
-use Rattle.std.specs.Prelude.{ℕ, ◌≤◌, ◌≡◌, Bool, true, cond, ◌&&◌, List, map, leb, length, take}
+use Rattle.state.specs.Passed.{Passed}
+use Rattle.std.specs.Prelude.{ℕ, ◌≤◌, ◌≡◌, Bool, true, cond, ◌&&◌, List, map, leb, length, take, Err, Ok}
 use Rattle.wire.specs.Bytes.{every}
 use Rattle.layout.specs.Limits.{list_limit, signer_limit}
 use Rattle.validity.specs.Keys.{key_number}
 use Rattle.step_definition.specs.Ids.{distinct}
 use Rattle.step_definition.specs.Configuration as D
-use Rattle.state.specs.declared.answers.Passed.{Passed}
-use Rattle.state.specs.declared.answers.Passed.TheVariants.{Yes, No}
 use Rattle.state.specs.declared.fields.Timeouts.{Timeouts}
 use Rattle.state.specs.Slots.{when}
 use Rattle.state.specs.View.{reading}
@@ -50,7 +49,7 @@ new_config_of g =
 
 -- 1, then 2, then 3
 unfoldable pub new_asked : D.Config → Passed
-new_asked g = cond (D.question1 g) (cond (D.question2 g) (cond (D.question3 g) Yes (No 3)) (No 2)) (No 1)
+new_asked g = cond (D.question1 g) (cond (D.question2 g) (cond (D.question3 g) (Ok tt) (Err 3)) (Err 2)) (Err 1)
 
 -- the parts of the questions, at the struct: a signer's id, its keys, how many, and 2 of one set
 abbrev pub signer_number : NewSigner → ℕ

@@ -1,5 +1,7 @@
 -- Each call's turn is the step's, of what the struct stands for beside the bytes that are lent.
 -- Assumes nothing.
+use Rattle.starts.specs.Starts.{SignId}
+use Rattle.std.specs.Prelude.{None, Some}
 use Prim.Native.Nat.{ℕ}
 use mathlib.Core.Path.{◌≡◌, refl}
 use mathlib.Core.Bool.{Bool}
@@ -15,8 +17,6 @@ use Rattle.commission.proofs.Refines.{commission-refines}
 use Rattle.calls.specs.declared.held_keys.HeldKey.TheVariants as Which
 use Rattle.calls.proofs.Refines.{set-key-refines, can-move-refines, aggregated_refines, reset_refines}
 use Rattle.results.proofs.Refines.{results-refines}
-use Rattle.starts.specs.declared.naming.SignId.{SignId}
-use Rattle.starts.specs.declared.naming.SignId.TheVariants.{Next, Given}
 use Rattle.starts.proofs.Refines.{id_given, start-refines}
 use Rattle.arrivals.proofs.Refines.{tell-arrivals-refines}
 use Rattle.process_timeout.proofs.Refines.{process-timeout-refines}
@@ -29,8 +29,8 @@ pub as_shaped : {s : Coordinator} → Formed s → Shaped s
 as_shaped f = record { signers = f.signers; rows = f.rows; slots = f.slots; shares = f.shares }
 
 same_id : (i : SignId) → host_sign_id i ≡ id_given i
-same_id Next = refl
-same_id (Given n) = refl
+same_id None = refl
+same_id (Some n) = refl
 
 pub turn_refines :
     (q : HostRequest) (clock : ℕ) (verdict : Bool) (room : ℕ) (s : Coordinator) (store : List ℕ) → Formed s → GivenArrays q

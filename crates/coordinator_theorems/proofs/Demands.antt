@@ -1,10 +1,11 @@
 -- Demand 3, who may be excluded, and what a refusal changes, of the calls as a host makes them: "for real".
 -- Assumes nothing.
+use Rattle.std.proofs.lemmas.Option.{none-some}
+use Rattle.std.specs.Prelude.{Option, None, Some}
 use Prim.Native.Nat.{ℕ, suc}
 use mathlib.Core.Path.{◌≡◌, refl, sym, ap, subst, ◌∙◌}
 use mathlib.Core.Bool.{Bool, true, false, cond}
 use mathlib.Core.List.{List, [], ◌∷◌, map}
-use mathlib.Core.Option.{Option, some, none, none-ne-some}
 use native.Mathlib.Omega.{arith}
 use borrow.Author.Tests.{eqb-true}
 use lib.Dec.{eqb}
@@ -34,9 +35,7 @@ use Rattle.step_definition.proofs.Malicious.{malicious_kept, malicious_grows}
 use Rattle.step_definition.proofs.Silence.{Begins, Adds, only_the_silent}
 use Rattle.step_definition.proofs.Silence as S
 use Rattle.step_definition.specs.Counts.{RoundFits, root_size}
-use Rattle.state_table.specs.declared.StateType.{StateType}
-use Rattle.state_table.specs.declared.StateType.TheVariants.{Untyped, Typed}
-use Rattle.state_table.specs.States.{type_in}
+use Rattle.state_table.specs.States.{type_in, StateType}
 use Rattle.state.specs.declared.fields.Coordinator.{Coordinator}
 use Rattle.state.specs.Counts.{is_within_limits}
 use Rattle.state.specs.View.{coordinator_of, round_of, position_of, root_bytes, view, held_if}
@@ -65,7 +64,7 @@ module _ (k : HostCall) (x : Host) (formed : Formed x.struct) (m : Makeable (len
 
   -- "only a share timeout adds"
   pub host-malicious-kept :
-      is_commission (as_request k.request) ≡ false → A.newly_malicious_in (turn_of k x).events ≡ none → malicious_in (viewed (host_step k x)) ≡ malicious_in (viewed x)
+      is_commission (as_request k.request) ≡ false → A.newly_malicious_in (turn_of k x).events ≡ None → malicious_in (viewed (host_step k x)) ≡ malicious_in (viewed x)
   unfolding as_call
   host-malicious-kept nc e =
       ap malicious_in r.after ∙ malicious_kept (as_call k) (viewed x) nc (sym (ap A.newly_malicious_in r.events) ∙ e)
@@ -90,13 +89,13 @@ begun y (opening k x e f m) =
 
 pub host_only_the_silent :
     (y : Host) → HostBegins y → Formed y.struct → (ks : List HostCall) (k : HostCall) → All (Makeable (length y.store)) (k ∷ ks)
-    → (ids : List ℕ) → A.newly_malicious_in (turn_of k (host_final ks y)).events ≡ some ids
+    → (ids : List ℕ) → A.newly_malicious_in (turn_of k (host_final ks y)).events ≡ Some ids
     → Adds (watched (map as_call ks) (viewed y) unasked) ids (malicious_in (viewed (host_step k (host_final ks y)))) (malicious_in (viewed (host_final ks y)))
 host_only_the_silent y b f ks k a ids e =
     let end = final-formed ks y f a.1 in
     let last = call_refines k (host_final ks y) end.0 (subst (λ (n : ℕ). Makeable n k) (sym end.1) a.0) in
     let same = (run_refines ks y f a.1).1 in
-    let newly : A.newly_malicious_in (step (as_call k) (final (map as_call ks) (viewed y))).events ≡ some ids =
+    let newly : A.newly_malicious_in (step (as_call k) (final (map as_call ks) (viewed y))).events ≡ Some ids =
     rw same at (sym (ap A.newly_malicious_in last.events) ∙ e) in
     rw (last.after, same) (only_the_silent (viewed y) (begun y b) (map as_call ks) (as_call k) ids newly)
 
@@ -105,8 +104,8 @@ host_only_the_silent y b f ks k a ids e =
 -- what a struct stands for, in numbers of their types
 root-fits : (t : StateType) (root : List ℕ) → length root ≡ 32 → Bytes root → L.Sized (root_size t) (root_bytes t root)
 unfolding root_bytes
-root-fits Untyped root long b = record { bytes = λ i. omega arith; size = refl }
-root-fits (Typed t) root long b =
+root-fits None root long b = record { bytes = λ i. omega arith; size = refl }
+root-fits (Some t) root long b =
     record { bytes = bytes_take (root_length (type_number t)) root b; size = length-take-le (root_length (type_number t)) root (omega (arith, root-few (type_number t))) }
 
 round-fits : (s : Coordinator) (store : List ℕ) → length s.position.root ≡ 32 → Fits s → RoundFits (coordinator_of s store)
@@ -181,25 +180,25 @@ host_equal_futures k₁ k₂ x₁ x₂ f₁ f₂ m₁ m₂ one same clock fits�
 
 -- Demand 3, second half: the share request that the round's book names
 
-later-named : (rest : Option Place) → named (or_later none rest) ≡ later (named rest)
+later-named : (rest : Option Place) → named (or_later None rest) ≡ later (named rest)
 unfolding named or_later later
-later-named none = refl
-later-named (some p) = refl
+later-named None = refl
+later-named (Some p) = refl
 
 module _ (k : HostCall) (x : Host) (r : HostRefines k x) where
   by_event : (e : Option SignatureShareRequest) → A.share_request_in (step (as_call k) (viewed x)).events ≡ e → (rest : Option Place)
-      → cond (eqb (kind_written k x) 3) (some (record { call = 0; bytes = (turn_of k x).answer.bytes })) (later (named rest)) ≡ named (or_later e rest)
+      → cond (eqb (kind_written k x) 3) (Some (record { call = 0; bytes = (turn_of k x).answer.bytes })) (later (named rest)) ≡ named (or_later e rest)
   unfolding encode header laid header_bytes le named or_later
-  by_event (some q) e rest =
+  by_event (Some q) e rest =
       let wrote : (turn_of k x).answer.bytes ≡ encode (signature_share_request q) =
       ap (λ (a : A.Answer). a.bytes) (r.answer ∙ share_request-answer (as_call k) (viewed x) q e) in
       rw wrote
-  by_event none e rest = by (eqb (kind_written k x) 3) refl
+  by_event None e rest = by (eqb (kind_written k x) 3) refl
     where
-      by : (b : Bool) → eqb (kind_written k x) 3 ≡ b → cond b (some (record { call = 0; bytes = (turn_of k x).answer.bytes })) (later (named rest)) ≡ named (or_later none rest)
+      by : (b : Bool) → eqb (kind_written k x) 3 ≡ b → cond b (Some (record { call = 0; bytes = (turn_of k x).answer.bytes })) (later (named rest)) ≡ named (or_later None rest)
       by true t =
           let q = kind_3_answer (as_call k) (viewed x) (sym (ap (λ (a : A.Answer). get_or a.bytes 0 0) r.answer) ∙ eqb-true _ _ t) in
-          let z : ◌≡◌ {A = Option SignatureShareRequest} none (some q.0) = sym e ∙ q.1 in
+          let z : ◌≡◌ {A = Option SignatureShareRequest} None (Some q.0) = sym e ∙ q.1 in
           let y : ◌≡◌ {A = ℕ} 0 1 = cc in
           let w : ⊥ = omega arith in
           absurd w
@@ -239,7 +238,7 @@ pub host_next_share_request :
     → (ks : List HostCall) → All (Makeable (length x.store)) ks → HostPlain ks (host_step k x)
     → (q : NonceRequest) × ((turn_of k x).answer ≡ A.sending A.packet (encode (nonce_request q)))
     × (first_kind3 ks (host_step k x) ≡ named (first_named (opened_by (as_call k) q (seen (host_step k x))) (empty (opened_by (as_call k) q (seen (host_step k x)))) (map as_call ks)))
-    × ((p : Place) → first_named (opened_by (as_call k) q (seen (host_step k x))) (empty (opened_by (as_call k) q (seen (host_step k x)))) (map as_call ks) ≡ some p
+    × ((p : Place) → first_named (opened_by (as_call k) q (seen (host_step k x))) (empty (opened_by (as_call k) q (seen (host_step k x)))) (map as_call ks) ≡ Some p
     → Authentic (seen (host_step k x)).standing q.ids p.request)
 host_next_share_request k x f m one ks a p =
     let y = host_step k x in
@@ -255,14 +254,14 @@ host_next_share_request k x f m one ks a p =
 
 -- "which is then recorded": up to the first share request the book's entries are the records that struct and store stand for
 
-named_none : (o : Option Place) → named o ≡ none → o ≡ none
+named_none : (o : Option Place) → named o ≡ None → o ≡ None
 unfolding named
-named_none none e = refl
-named_none (some p) e = absurd (none-ne-some _ (sym e))
+named_none None e = refl
+named_none (Some p) e = absurd (none-some _ (sym e))
 
 pub host_log_is_records :
     (k : HostCall) (x : Host) → Formed x.struct → Makeable (length x.store) k → kind_written k x ≡ 1
-    → (ks : List HostCall) → All (Makeable (length x.store)) ks → HostPlain ks (host_step k x) → first_kind3 ks (host_step k x) ≡ none
+    → (ks : List HostCall) → All (Makeable (length x.store)) ks → HostPlain ks (host_step k x) → first_kind3 ks (host_step k x) ≡ None
     → (q : NonceRequest) × ((turn_of k x).answer ≡ A.sending A.packet (encode (nonce_request q)))
     × RecordsLogged (viewed (host_final ks (host_step k x)))
     (log_after (opened_by (as_call k) q (seen (host_step k x))) (empty (opened_by (as_call k) q (seen (host_step k x)))) (map as_call ks))
@@ -275,7 +274,7 @@ host_log_is_records k x f m one ks a p none_left =
     let kept = (step_formed k x f m).0 in
     let plain : Plain (map as_call ks) (commissioned (seen y)) =
     subst (Plain (map as_call ks)) seen_after (plain-seen ks y kept makeable p) in
-    let nothing : first_share_request (map as_call ks) (commissioned (seen y)) ≡ none =
+    let nothing : first_share_request (map as_call ks) (commissioned (seen y)) ≡ None =
     named_none _
     (ap (λ (h : Held). named (first_share_request (map as_call ks) h)) (sym seen_after) ∙ sym (first_kind_3 ks y kept makeable) ∙ none_left) in
     let end : viewed (host_final ks y) ≡ final (map as_call ks) (commissioned (seen y)) =

@@ -1,6 +1,7 @@
 -- Every way in which a call ends: what it leaves of struct and store where it is taken, and where it is refused. What is said of all
 -- calls goes by these cases.
 -- Assumes nothing.
+use Rattle.std.specs.Prelude.{Err, Ok}
 use Prim.Native.Nat.{ℕ}
 use mathlib.Core.Path.{◌≡◌, refl}
 use mathlib.Core.Bool.{Bool, true, false, cond}
@@ -8,11 +9,10 @@ use mathlib.Core.List.{List}
 use lib.ListN.{length, replicate}
 use Rattle.layout.specs.declared.SignatureType.{SignatureType}
 use Rattle.layout.specs.LaidOut.{header_in, part_at}
-use Rattle.state.specs.declared.answers.Passed.{Passed}
-use Rattle.state.specs.declared.answers.Passed.TheVariants.{Yes, No}
 use Rattle.state.specs.declared.fields.Coordinator.{Coordinator}
 use Rattle.state.specs.Setters.{set_keys, set_records, set_shares, set_job}
 use Rattle.state.specs.Turns.{Turn, unless}
+use Rattle.state.specs.Passed.{Passed}
 use Rattle.configuration.specs.declared.new_config.NewConfig.{NewConfig}
 use Rattle.configuration.specs.NewConfig.{new_config_of, new_asked}
 use Rattle.commission.specs.Commission.{fresh_of}
@@ -46,7 +46,7 @@ with_shares parts r i s = set_shares (kept_shares i parts s.shares) (freed r i s
 -- struct and lent store after a call that is answered with no number
 pub data Taken (s : Coordinator) (store : List ℕ) : HostRequest → Coordinator → List ℕ → Type 0 where
   as_before : {q : HostRequest} → Taken s store q s store
-  fresh : {g : NewConfig} → new_asked (new_config_of g) ≡ Yes → Taken s store (commission g) (fresh_of g) (replicate (length store) 0)
+  fresh : {g : NewConfig} → new_asked (new_config_of g) ≡ (Ok tt) → Taken s store (commission g) (fresh_of g) (replicate (length store) 0)
   key_set : {which : HeldKey} {held : Bool} → Taken s store (set_key which held) (set_keys (keys_with which held s.keys) s) store
   results_taken : {dkg : ℕ} {ended : List ℕ} → Taken s store (take_results dkg ended) (with_results dkg ended s) store
   signature : {ok : Bool} → Taken s store (aggregated ok) (signed s) store
@@ -84,14 +84,14 @@ pub data Ended (clock : ℕ) (q : HostRequest) (s : Coordinator) (store : List �
 
 -- a question that changes nothing where it is answered no
 abbrev pub Bare : Passed → Type 0
-Bare Yes = Unit {0}
-Bare (No n) = changing n ≡ false
+Bare (Ok tt) = Unit {0}
+Bare (Err n) = changing n ≡ false
 
 module _ {clock : ℕ} {q : HostRequest} {s : Coordinator} {store : List ℕ} where
   pub ends_unless : commissions q ≡ false → (p : Passed) {rest : Turn} → Bare p → Ended clock q s store rest → Ended clock q s store (unless p s store rest)
   unfolding unless
-  ends_unless other Yes b k = k
-  ends_unless other (No n) b k = refused (otherwise q n other b)
+  ends_unless other (Ok tt) b k = k
+  ends_unless other (Err n) b k = refused (otherwise q n other b)
 
   pub ends_cond : (b : Bool) {x y : Turn} → (b ≡ true → Ended clock q s store x) → (b ≡ false → Ended clock q s store y) → Ended clock q s store (cond b x y)
   ends_cond true k l = k refl

@@ -1,5 +1,6 @@
 -- How the calls that bring no packet and test no timeout end, but for the start.
 -- Assumes nothing.
+use Rattle.std.specs.Prelude.{Err, Ok}
 use Prim.Native.Nat.{ℕ, ◌≤◌}
 use mathlib.Core.Path.{◌≡◌, refl}
 use mathlib.Core.Bool.{Bool, true, false, not, ◌||◌}
@@ -15,11 +16,10 @@ use Rattle.step_definition.specs.Configuration.{Config, question1, question2, qu
 use Rattle.step_definition.specs.Phases.{phase_of, is_idle}
 use Rattle.step_definition.proofs.Cases.{cond_both}
 use Rattle.state.specs.declared.answers.Asks.{Asks}
-use Rattle.state.specs.declared.answers.Passed.{Passed}
-use Rattle.state.specs.declared.answers.Passed.TheVariants.{Yes, No}
 use Rattle.state.specs.declared.fields.Coordinator.{Coordinator}
 use Rattle.state.specs.Counts.{is_within_limits}
 use Rattle.state.specs.Turns.{Turn, turn, asked, asked_if, unless}
+use Rattle.state.specs.Passed.{Passed}
 use Rattle.configuration.specs.declared.new_config.NewConfig.{NewConfig}
 use Rattle.configuration.specs.NewConfig.{new_config_of, new_asked}
 use Rattle.commission.specs.Commission.{uncommissioned_struct, fresh_of, commission_turn}
@@ -34,8 +34,8 @@ use Rattle.coordinator_theorems.proofs.Ends.{Ended, took, refused, fresh, key_se
 
 -- commissioning's numbers are 1 to 3
 abbrev FirstThree : Passed → Type 0
-FirstThree Yes = Unit {0}
-FirstThree (No n) = (1 ≤ n) × (n ≤ 3)
+FirstThree (Ok tt) = Unit {0}
+FirstThree (Err n) = (1 ≤ n) × (n ≤ 3)
 
 new_numbers : (g : Config) → FirstThree (new_asked g)
 unfolding new_asked
@@ -50,8 +50,8 @@ commission_ends clock g s store = by (new_asked (new_config_of g)) refl (new_num
   where
     by : (p : Passed) → new_asked (new_config_of g) ≡ p → FirstThree p
         → Ended clock (commission g) s store (unless p uncommissioned_struct store (turn A.plain (fresh_of g) (replicate (length store) 0)))
-    by Yes e f = took refl (fresh e)
-    by (No n) e f = refused (commissioning g n f.0 f.1)
+    by (Ok tt) e f = took refl (fresh e)
+    by (Err n) e f = refused (commissioning g n f.0 f.1)
 
 -- commissioning that is answered with no number
 pub commission_took :
@@ -65,8 +65,8 @@ commission_took g store e = by (new_asked (new_config_of g)) (new_numbers (new_c
 
     by : (p : Passed) → FirstThree p → (ended p).answer.number ≡ 0
         → ((ended p).after ≡ fresh_of g) × ((ended p).store ≡ replicate (length store) 0)
-    by Yes f e = (refl, refl)
-    by (No n) f e = absurd (omega (arith, f.0))
+    by (Ok tt) f e = (refl, refl)
+    by (Err n) f e = absurd (omega (arith, f.0))
 
 -- 4 to 7 change nothing, 24 and 25 change nothing
 pub asked_bare : (a : Asks) (size room : ℕ) (s : Coordinator) → Bare (asked a size room s)

@@ -4,7 +4,7 @@ use Prim.Native.Nat.{ℕ}
 use mathlib.Core.Path.{◌≡◌, refl}
 use mathlib.Core.Bool.{false}
 use mathlib.Core.List.{List}
-use mathlib.Core.Option.{some}
+use Rattle.std.specs.Prelude.{Some}
 use lib.Dec.{eqb, leb, ltb}
 use Rattle.layout.specs.declared.Ids.{Ids}
 use Rattle.layout.specs.declared.SignatureType.{SignatureType}
@@ -32,9 +32,9 @@ module _ (id : ℕ) (m keys nonces : List ℕ) (s : Coordinator) (store : List �
   Says (Wrong n got expected) = changing n ≡ false
   Says Full = Unit {0}
   Says Nothing = Unit {0}
-  Says (Record r i) = (r ≡ record_place m s.records store) × (slot_of id s.config ≡ some i)
+  Says (Record r i) = (r ≡ record_place m s.records store) × (slot_of id s.config ≡ Some i)
 
-  at_says : (i : ℕ) → slot_of id s.config ≡ some i → Says (verdict_at s store m keys nonces i)
+  at_says : (i : ℕ) → slot_of id s.config ≡ Some i → Says (verdict_at s store m keys nonces i)
   unfolding verdict_at verdict_on
   at_says i e =
       let r = record_place m s.records store in
@@ -61,7 +61,7 @@ module _ (clock : ℕ) (t : SignatureType) (entry : Entry) (p : List ℕ) (s : C
 
   -- the response is recorded, then its message's keys are too few, or no group key is held (10), or the shares are asked for
   recorded-ends :
-      (r i : ℕ) → r ≡ record_place m s.records store → slot_of id s.config ≡ some i
+      (r i : ℕ) → r ≡ record_place m s.records store → slot_of id s.config ≡ Some i
       → Ended clock (receive entry p) s store (recorded_turn clock t r i (header_in p).ids id m (part_at p 40) (part_at p 48) s store)
   unfolding recorded_turn record_turn share_request_turn
   recorded-ends r i place slot =

@@ -4,7 +4,7 @@ use Prim.Native.Nat.{ℕ, ◌≤◌}
 use mathlib.Core.Path.{◌≡◌, refl}
 use mathlib.Core.Bool.{false}
 use mathlib.Core.List.{List}
-use mathlib.Core.Option.{some}
+use Rattle.std.specs.Prelude.{Some}
 use native.Mathlib.Omega.{arith}
 use lib.Dec.{eqb}
 use lib.ListN.{get_or}
@@ -36,11 +36,11 @@ module _ (q : SignatureShareResponse) (s : Coordinator) (store : List ℕ) where
   abbrev Says : Verdict → Type 0
   Says Unawaited = Unit {0}
   Says (Wrong n got expected) = changing n ≡ false
-  Says (Refused n r i) = (20 ≤ n) × (n ≤ 22) × (r ≡ current_place s store) × (slot_of q.signer_id s.config ≡ some i)
+  Says (Refused n r i) = (20 ≤ n) × (n ≤ 22) × (r ≡ current_place s store) × (slot_of q.signer_id s.config ≡ Some i)
   Says (Unended r i) = Unit {0}
   Says (Good r i) = Unit {0}
 
-  waiter_says : (i : ℕ) → slot_of q.signer_id s.config ≡ some i → Says (waiter_verdict s q (current_place s store) i)
+  waiter_says : (i : ℕ) → slot_of q.signer_id s.config ≡ Some i → Says (waiter_verdict s q (current_place s store) i)
   unfolding waiter_verdict shares_verdict
   waiter_says i e =
       let entry = get_or s.config.signers i no_entry in

@@ -27,8 +27,7 @@ use Rattle.configuration.proofs.Asked.{accepted}
 use Rattle.commission.specs.Commission.{no_responses, no_records, no_message, at_idle, fresh_with, uncommissioned_struct, fresh_of}
 use Rattle.calls.specs.Resets.{abandoned, forgotten}
 use Rattle.results.specs.Results.{with_results}
-use Rattle.starts.specs.declared.naming.SignId.{SignId}
-use Rattle.starts.specs.Starts.{start_named, start_requested}
+use Rattle.starts.specs.Starts.{start_named, start_requested, SignId}
 use Rattle.share_timeout.specs.Exclusion.{excluded_in}
 use Rattle.idle.specs.Idle.{root_in, iterated}
 use Rattle.records.specs.Records.{empty_row, opened, opened_store, held_slot, added_records, added_store}

@@ -1,5 +1,6 @@
 -- What a struct stands for beside a store looks at the first 52,224 bytes alone; a call that is lent fewer is refused with 4.
 -- Assumes nothing.
+use Rattle.std.specs.Prelude.{Err}
 use Prim.Native.Nat.{ℕ, ◌*◌, ◌≤◌, ◌<◌}
 use mathlib.Core.Path.{◌≡◌, refl}
 use mathlib.Core.Bool.{Bool, true, false}
@@ -13,7 +14,6 @@ use Rattle.step_definition.specs.Calls as A
 use Rattle.step_definition.specs.Questions.{question4, before}
 use Rattle.step_definition.specs.Step.{on_held}
 use Rattle.state.specs.declared.answers.Asks.{Asks}
-use Rattle.state.specs.declared.answers.Passed.TheVariants.{No}
 use Rattle.state.specs.declared.fields.Coordinator.{Coordinator}
 use Rattle.state.specs.Counts.{is_within_limits}
 use Rattle.state.specs.View.{shares_start, share_bytes, slots_of, view, held_if, coordinator_of, round_of}
@@ -44,11 +44,11 @@ module _ (s : Coordinator) (shaped : Shaped s) (store more : List ℕ) (long : s
       by true true e = rw (seen_lent e)
 
 -- too little is lent: 4, whatever else is asked
-pub short-asked : (a : Asks) (size room : ℕ) (s : Coordinator) → size < store_length → asked a size room s ≡ No 4
+pub short-asked : (a : Asks) (size room : ℕ) (s : Coordinator) → size < store_length → asked a size room s ≡ Err 4
 unfolding asked asked_if
 short-asked a size room s l = by s.commissioned (is_within_limits s)
   where
-    by : (b w : Bool) → asked_if a size room s.job b w ≡ No 4
+    by : (b w : Bool) → asked_if a size room s.job b w ≡ Err 4
     by false w = refl
     by true false = refl
     by true true = rw (lt-leb _ _ l)

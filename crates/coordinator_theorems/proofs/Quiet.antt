@@ -1,5 +1,6 @@
 -- Calls that give back the struct that they were given: refused with a number after which nothing differs, a timeout that isn't due, the move question.
 -- Assumes nothing.
+use Rattle.std.specs.Prelude.{Err, Ok}
 use Prim.Native.Nat.{ℕ, ◌<◌}
 use mathlib.Core.Path.{◌≡◌, refl, sym}
 use mathlib.Core.Bool.{Bool, true, false, cond, not, ◌&&◌, ◌||◌, false≢true}
@@ -10,10 +11,9 @@ use lib.Dec.{eqb, leb}
 use lib.ListN.{length}
 use Rattle.step_definition.specs.Calls.{is_nothing}
 use Rattle.step_definition.specs.Refusals.{unchanging}
-use Rattle.state.specs.declared.answers.Passed.{Passed}
-use Rattle.state.specs.declared.answers.Passed.TheVariants.{Yes, No}
 use Rattle.state.specs.declared.fields.Coordinator.{Coordinator}
 use Rattle.state.specs.Turns.{Turn, unless, asked}
+use Rattle.state.specs.Passed.{Passed}
 use Rattle.layout.specs.declared.SignatureType.{SignatureType}
 use Rattle.state.specs.declared.fields.SignRoundInfo.{SignRoundInfo}
 use Rattle.configuration.specs.declared.new_config.NewConfig.{NewConfig}
@@ -77,8 +77,8 @@ module _ (clock : ℕ) (s : Coordinator) (store : List ℕ) where
 
   still_unless : (p : Passed) {rest : Turn} → Still rest → Still (unless p s store rest)
   unfolding unless
-  still_unless Yes k = k
-  still_unless (No n) k = record { still = λ e. refl }
+  still_unless (Ok tt) k = k
+  still_unless (Err n) k = record { still = λ e. refl }
 
   still_cond : (b : Bool) {x y : Turn} → Still x → Still y → Still (cond b x y)
   still_cond true k l = k

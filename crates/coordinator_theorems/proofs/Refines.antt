@@ -1,6 +1,7 @@
 -- One theorem over all calls, and over lists of them: what a host's calls give on its struct and store is what the step says of what
 -- these stand for.
 -- Assumes nothing.
+use Rattle.std.specs.Prelude.{Err, Ok}
 use Prim.Native.Nat.{ℕ, ◌≤◌, ◌<◌}
 use mathlib.Core.Path.{◌≡◌, refl, sym, ap, subst, ◌∙◌}
 use mathlib.Core.Bool.{Bool, true, false}
@@ -15,11 +16,10 @@ use Rattle.layout.specs.Limits.{store_length}
 use Rattle.step_definition.specs.Calls as A
 use Rattle.step_definition.specs.Run.{run, final}
 use Rattle.step_definition.specs.Step.{step_of, step}
-use Rattle.state.specs.declared.answers.Passed.{Passed}
-use Rattle.state.specs.declared.answers.Passed.TheVariants.{Yes, No}
 use Rattle.state.specs.declared.fields.Coordinator.{Coordinator}
 use Rattle.state.specs.View.{view, held_if, position_of}
 use Rattle.state.specs.Turns.{Turn, turn, unless, Refines}
+use Rattle.state.specs.Passed.{Passed}
 use Rattle.configuration.specs.declared.new_config.NewConfig.{NewConfig}
 use Rattle.configuration.specs.NewConfig.{new_config_of, new_asked}
 use Rattle.commission.specs.Commission.{uncommissioned_struct, fresh_of, commission_turn}
@@ -41,7 +41,7 @@ use Rattle.coordinator_theorems.proofs.Calls.{as_shaped, turn_refines}
 use Rattle.coordinator_theorems.proofs.Keeps.{turn_keeps}
 
 -- refused with 4
-unless_4 : (p : Passed) (s : Coordinator) (store : List ℕ) (rest : Turn) → p ≡ No 4 → unless p s store rest ≡ turn (A.refusing A.error 4 []) s store
+unless_4 : (p : Passed) (s : Coordinator) (store : List ℕ) (rest : Turn) → p ≡ Err 4 → unless p s store rest ≡ turn (A.refusing A.error 4 []) s store
 unfolding unless
 unless_4 p s store rest e = rw e
 
@@ -52,8 +52,8 @@ any_store g long store a b = by (new_asked (new_config_of g)) refl
   where
     by : (p : Passed) → new_asked (new_config_of g) ≡ p
         → view (unless p uncommissioned_struct store (turn A.plain (fresh_of g) (replicate (length store) 0))).after a ≡ view (unless p uncommissioned_struct store (turn A.plain (fresh_of g) (replicate (length store) 0))).after b
-    by Yes y = fresh_stands g long y a ∙ sym (fresh_stands g long y b)
-    by (No n) y = refl
+    by (Ok tt) y = fresh_stands g long y a ∙ sym (fresh_stands g long y b)
+    by (Err n) y = refl
 
 module _ (k : HostCall) (x : Host) (formed : Formed x.struct) (m : Makeable (length x.store) k) where
   abbrev s : Coordinator

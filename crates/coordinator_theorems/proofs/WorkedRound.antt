@@ -1,6 +1,7 @@
 -- What demand 3's theorems suppose of a host can be met: the worked round, from any struct and any store of 52,224 bytes or more. The
 -- store is nowhere computed; what struct and store stand for is carried to the definition's own worked round.
 -- Assumes nothing.
+use Rattle.std.specs.Prelude.{None}
 use Prim.Native.Nat.{ℕ, zero, suc, ◌≤◌}
 use mathlib.Core.Path.{◌≡◌, refl, sym, ap, subst, ◌∙◌}
 use mathlib.Core.Bool.{true}
@@ -16,7 +17,6 @@ use Rattle.layout.specs.Limits.{store_length, answer_length}
 use Rattle.layout.specs.Types.{root_length}
 use Rattle.layout.specs.declared.SignatureType.TheVariants.{Frost}
 use Rattle.validity.specs.Keys.{member}
-use Rattle.starts.specs.declared.naming.SignId.TheVariants.{Next}
 use Rattle.layout.specs.Encode.{encode, header, header_bytes, packet as laid}
 use Rattle.layout.specs.Messages.{NonceRequest, nonce_request}
 use Rattle.step_definition.specs.Lists.{insert_by}
@@ -61,7 +61,7 @@ use Rattle.coordinator_theorems.proofs.Demands.{held_seen, first_kind_3, plain_h
 
 -- the host's calls are the definition's; the start's root of 32 zeros counts as none, because its type has none
 ready-calls : map as_call host_ready ≡ ready
-unfolding as_call as_request new_config_of numbers_in reading
+unfolding as_call as_request new_config_of numbers_in
 ready-calls = refl
 
 answer-calls : map as_call host_answers ≡ answers 0 q0 ∷ answers 0 q1 ∷ []
@@ -93,19 +93,19 @@ abbrev s₄ : Coordinator
 s₄ = with_results 1 (0 ∷ 1 ∷ 2 ∷ []) s₃
 
 abbrev s₅ : Coordinator
-s₅ = start_requested 0 Frost (replicate 32 0) (start_named nine Next s₄)
+s₅ = start_requested 0 Frost (replicate 32 0) (start_named nine None s₄)
 
 abbrev After : HostRequest → Coordinator → Coordinator → Type 0
 After q s s' = (store : List ℕ) → length store ≡ store_length → (turn_for q 0 true answer_length s store).after ≡ s'
 
 -- the five calls pass 4 to 7, and what each asks besides
 after₁ : (s : Coordinator) → After (commission example_given) s s₁
-unfolding turn_for commission_turn unless new_asked new_config_of numbers_in reading question1 question2 question3 set_sizes distinct every member
+unfolding turn_for commission_turn unless new_asked new_config_of numbers_in question1 question2 question3 set_sizes distinct
 after₁ s store e = refl
 
 -- 4's counts: the four structs have the same
 within₁ : is_within_limits s₁ ≡ true
-unfolding is_within_limits config_within entries entry_within key_count sum slot_within row_within_limits records_within shares_within every fresh_of config_from entry_of keys_given numbers_in insert_all insert_by no_records no_message
+unfolding is_within_limits config_within entries entry_within key_count sum slot_within row_within_limits records_within shares_within fresh_of config_from entry_of keys_given numbers_in insert_all insert_by no_records no_message
 within₁ = refl
 
 within₂ : is_within_limits s₂ ≡ true
@@ -129,7 +129,7 @@ unfolding turn_for set_key_turn unless asked asked_if fresh_of
 after₃ store e = rw (e, within₂)
 
 after₄ : After (take_results 1 (0 ∷ 1 ∷ 2 ∷ [])) s₃ s₄
-unfolding turn_for results_turn results_asked slot_from entries config_from entry_of every at_idle unless asked asked_if fresh_of
+unfolding turn_for results_turn results_asked slot_from entries config_from entry_of at_idle unless asked asked_if fresh_of
 after₄ store e = rw (e, within₃)
 
 after₅ : After host_opener.request s₄ s₅
@@ -159,13 +159,12 @@ goes q x s s' a g after =
 
 -- numbers of their types
 small : (l : List ℕ) → every (λ (b : ℕ). ltb b 256) l ≡ true → Bytes l
-unfolding every
 small [] e i = omega arith
 small (x ∷ xs) e zero = ltb-true x 256 (and_left (ltb x 256) _ e)
 small (x ∷ xs) e (suc i) = small xs (and_right (ltb x 256) _ e) i
 
 s₅_fits : Fits s₅
-unfolding start_requested start_named sign_id_of next with_results fresh_of no_message put every
+unfolding start_requested start_named sign_id_of next with_results fresh_of no_message put
 s₅_fits =
     record {
       ids = record { dkg_id = omega arith; sign_id = omega arith; sign_iter_id = omega arith };

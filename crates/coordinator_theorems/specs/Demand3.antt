@@ -1,6 +1,5 @@
 -- Demand 3 in a host's words: its calls on its structs and stores.
-use Rattle.std.specs.Prelude.{ℕ, suc, ◌≡◌, true, cond, List, [], ◌∷◌, eqb, length, get_or}
-use Rattle.std.proofs.Math.Option.{Option, some, none}
+use Rattle.std.specs.Prelude.{Option, Some, None, ℕ, suc, ◌≡◌, true, cond, List, [], ◌∷◌, eqb, length, get_or}
 use Rattle.wire.specs.Bytes.{Bytes}
 use Rattle.layout.specs.Fits.{IdsFit}
 use Rattle.layout.specs.Messages.{signature_share_request}
@@ -33,18 +32,18 @@ pub record Written : Type 0 where
   pub bytes : List ℕ
 
 unfoldable pub later : Option Written → Option Written
-later none = none
-later (some w) = some (record { call = suc w.call; bytes = w.bytes })
+later None = None
+later (Some w) = Some (record { call = suc w.call; bytes = w.bytes })
 
 unfoldable pub first_kind3 : List HostCall → Host → Option Written
-first_kind3 [] x = none
+first_kind3 [] x = None
 first_kind3 (k ∷ ks) x =
-    cond (eqb (kind_written k x) 3) (some (record { call = 0; bytes = (turn_of k x).answer.bytes })) (later (first_kind3 ks (host_step k x)))
+    cond (eqb (kind_written k x) 3) (Some (record { call = 0; bytes = (turn_of k x).answer.bytes })) (later (first_kind3 ks (host_step k x)))
 
 -- the call that the round's book names, with the bytes of its share request
 unfoldable pub named : Option Place → Option Written
-named none = none
-named (some p) = some (record { call = p.call; bytes = encode (signature_share_request p.request) })
+named None = None
+named (Some p) = Some (record { call = p.call; bytes = encode (signature_share_request p.request) })
 
 -- where a watch begins: at a commissioning, or at a call that writes a nonce request
 pub data HostBegins : Host → Type 0 where

@@ -1,6 +1,5 @@
 -- The calls as a host makes them on a struct and a store, one after the other: "Each call gets the state and store that the last left".
-use Rattle.std.specs.Prelude.{ℕ, Bool, List, [], ◌∷◌, ◌++◌, ◌≡◌, ◌≤◌, length, take, drop}
-use Rattle.std.proofs.Math.Option.{Option, some, none}
+use Rattle.std.specs.Prelude.{Option, ℕ, Bool, List, [], ◌∷◌, ◌++◌, ◌≡◌, ◌≤◌, length, take, drop, None, Some}
 use Rattle.wire.specs.Bytes.{All}
 use Rattle.layout.specs.Limits.{message_limit, signer_limit, record_limit}
 use Rattle.state_table.specs.declared.State.{State}
@@ -21,10 +20,8 @@ use Rattle.calls.specs.declared.held_keys.HeldKey.TheVariants as Which
 use Rattle.calls.specs.Calls.{set_key_turn, move_turn, aggregated_turn}
 use Rattle.calls.specs.Resets.{reset_turn}
 use Rattle.results.specs.Results.{results_turn}
-use Rattle.starts.specs.declared.naming.SignId.{SignId}
-use Rattle.starts.specs.declared.naming.SignId.TheVariants.{Next, Given}
 use Rattle.starts.specs.declared.naming.Start.{Start}
-use Rattle.starts.specs.Starts.{start_turn}
+use Rattle.starts.specs.Starts.{start_turn, SignId}
 use Rattle.arrivals.specs.Query.{arrivals_turn}
 use Rattle.process_timeout.specs.ProcessTimeout.{process_timeout_turn}
 use Rattle.packet_entry.specs.declared.Entry.{Entry}
@@ -104,8 +101,8 @@ held_key Which.Coordinator = A.coordinator_key
 held_key Which.Aggregate = A.aggregate_key
 
 abbrev pub host_sign_id : SignId → Option ℕ
-host_sign_id Next = none
-host_sign_id (Given n) = some n
+host_sign_id None = None
+host_sign_id (Some n) = Some n
 
 unfoldable pub as_request : HostRequest → A.Request
 as_request (commission g) = A.commission (new_config_of g)

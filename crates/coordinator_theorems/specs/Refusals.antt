@@ -1,6 +1,5 @@
 -- What a refusal leaves of the struct and of the lent store: every field and every byte, those that nothing looks at included.
-use Rattle.std.specs.Prelude.{ℕ, ◌+◌, ◌≤◌, ◌<◌, ◌≡◌, ◌⊎◌, ◌≢◌, Bool, true, false, ◌||◌, ◌&&◌, List, eqb, leb, length, get_or, take, drop}
-use Rattle.std.proofs.Math.Option.{some}
+use Rattle.std.specs.Prelude.{Some, ℕ, ◌+◌, ◌≤◌, ◌<◌, ◌≡◌, ◌⊎◌, ◌≢◌, Bool, true, false, ◌||◌, ◌&&◌, List, eqb, leb, length, get_or, take, drop}
 use Rattle.wire.specs.Bytes.{put}
 use Rattle.layout.specs.declared.Ids.{Ids}
 use Rattle.layout.specs.declared.SignatureType.{SignatureType}
@@ -73,7 +72,7 @@ pub data RefusalLeaves (clock : ℕ) (s : Coordinator) (store : List ℕ) : Host
   -- "10 in NonceGather, the record made and the message": the packet's, in the slot of its signer, with the call's clock reading (02, e)
   gathering :
       (entry : Entry) (p : List ℕ) (t : SignatureType) (r i : ℕ) → phase_of s.position.state ≡ gathering_nonces t → (header_in p).kind ≡ 2
-      → r ≡ record_place (part_at p 32) s.records store → slot_of (header_in p).signer_id s.config ≡ some i
+      → r ≡ record_place (part_at p 32) s.records store → slot_of (header_in p).signer_id s.config ≡ Some i
       → RefusalLeaves clock s store (receive entry p) 10
       (set_message (over (part_at p 32) s.message)
       (set_records (added_records clock r i (header_in p).ids (part_at p 32) (part_at p 40) (part_at p 48) s.records) s))
@@ -86,7 +85,7 @@ pub data RefusalLeaves (clock : ℕ) (s : Coordinator) (store : List ℕ) : Host
   -- "20 to 22, the waiter", in the record of the current message
   waiter :
       (entry : Entry) (p : List ℕ) (t : SignatureType) (n r i : ℕ) → phase_of s.position.state ≡ gathering_shares t
-      → (header_in p).kind ≡ 4 → 20 ≤ n → n ≤ 22 → r ≡ current_place s store → slot_of (header_in p).signer_id s.config ≡ some i
+      → (header_in p).kind ≡ 4 → 20 ≤ n → n ≤ 22 → r ≡ current_place s store → slot_of (header_in p).signer_id s.config ≡ Some i
       → RefusalLeaves clock s store (receive entry p) n (set_records (waiter_off r i s.records) s) store
   -- "23, the job is no longer out"
   failed : RefusalLeaves clock s store (aggregated false) 23 (set_job false s) store

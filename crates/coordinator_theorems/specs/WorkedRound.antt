@@ -1,6 +1,5 @@
 -- 01's worked round as a host's calls. "Signers 0, 1, 2; keys {1}, {2, 3}, {4}; num_keys 4, both thresholds 3, both timeouts 10."
-use Rattle.std.specs.Prelude.{ℕ, ◌-◌, ◌≡◌, true, List, [], ◌∷◌, ◌++◌, map, length, replicate}
-use Rattle.std.proofs.Math.Option.{some}
+use Rattle.std.specs.Prelude.{ℕ, ◌-◌, ◌≡◌, true, List, [], ◌∷◌, ◌++◌, map, length, replicate, None, Some}
 use Rattle.wire.specs.Bytes.{All}
 use Rattle.layout.specs.Limits.{store_length, answer_length}
 use Rattle.layout.specs.declared.SignatureType.TheVariants.{Frost}
@@ -9,11 +8,9 @@ use Rattle.layout.specs.Encode.{encode}
 use Rattle.validity.specs.Keys.{key_of}
 use Rattle.step_definition.specs.rounds.Rounds.{nine, q0, q1, request9, shares9}
 use Rattle.step_definition.specs.rounds.Kept.{opened9}
-use Rattle.state.specs.declared.fields.Reading.TheVariants.{At}
 use Rattle.configuration.specs.declared.new_config.NewSigner.{NewSigner}
 use Rattle.configuration.specs.declared.new_config.NewConfig.{NewConfig}
 use Rattle.calls.specs.declared.held_keys.HeldKey.TheVariants as Which
-use Rattle.starts.specs.declared.naming.SignId.TheVariants.{Next}
 use Rattle.packet_entry.specs.declared.Entry.TheVariants.{ProcessMessage}
 use Rattle.coordinator_theorems.specs.Host.{HostRequest, commission, set_key, take_results, start, receive}
 use Rattle.coordinator_theorems.specs.Host.{HostCall, Host, turn_of, host_step, host_final, seen, Formed, Makeable}
@@ -36,7 +33,7 @@ example_given =
       threshold = 3;
       dkg_threshold = 9;
       sign_threshold = 3;
-      timeouts = record { dkg_public = At 6; dkg_private = At 7; dkg_end = At 8; nonce = At 10; sign = At 10 };
+      timeouts = record { dkg_public = Some 6; dkg_private = Some 7; dkg_end = Some 8; nonce = Some 10; sign = Some 10 };
       signers = signer 0 (1 ∷ []) ∷ signer 1 (2 ∷ 3 ∷ []) ∷ signer 2 (4 ∷ []) ∷ replicate 8 (signer 0 []);
       count = 3;
       verify_packet_sigs = true;
@@ -56,7 +53,7 @@ host_ready =
     ∷ []
 
 abbrev pub host_opener : HostCall
-host_opener = lending (start nine (record { signature_type = Frost; root = replicate 32 0; sign_id = Next }))
+host_opener = lending (start nine (record { signature_type = Frost; root = replicate 32 0; sign_id = None }))
 
 abbrev pub host_answers : List HostCall
 host_answers =
@@ -82,4 +79,4 @@ pub record HostMet (x : Host) : Type 0 where
   pub plain : HostPlain host_answers (opened_from x)
   pub sends :
       first_kind3 host_answers (opened_from x)
-      ≡ some (record { call = 1; bytes = encode (signature_share_request (shares9 (q0 ∷ q1 ∷ []))) })
+      ≡ Some (record { call = 1; bytes = encode (signature_share_request (shares9 (q0 ∷ q1 ∷ []))) })

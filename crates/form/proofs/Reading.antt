@@ -1,13 +1,12 @@
--- Bytes that are copied into an array, and an array that a loop fills element by element.
+-- Bytes that are copied into an array, and an array that is read element by element.
 -- Assumes nothing.
 use Prim.Native.Nat.{ℕ, zero, suc, ◌+◌, ◌*◌, ◌≤◌, ◌<◌}
 use mathlib.Core.Path.{◌≡◌, refl, sym, ap, ◌∙◌}
 use mathlib.Core.List.{List, [], ◌∷◌, ◌++◌, append-nil}
-use native.Mathlib.Nat.{mul-zero, mul-suc, add-zero}
-use native.Mathlib.Numerals.{add-one}
+use native.Mathlib.Nat.{mul-zero, mul-suc}
 use native.Mathlib.Omega.{arith}
-use lib.ListN.{length, get_or, set, take, drop, replicate, length-set, length-replicate, length-take, drop_of_length-le}
-use lib.Seq.{take_all, take-suc-set, get_or-drop, drop-drop}
+use lib.ListN.{length, get_or, take, drop, replicate, length-replicate, length-take, drop_of_length-le}
+use lib.Seq.{get_or-drop, drop-drop}
 use Rattle.wire.specs.Bytes.{put}
 use Rattle.wire.proofs.Buffer.{put_inside}
 use Rattle.form.specs.Form as F
@@ -54,51 +53,21 @@ copied s at n e w =
     let k : 0 + length part ≡ length part = omega arith in
     w ∙ rw e (put_inside (replicate n 0) 0 part fits ∙ rw k (sym (bytes_padded s at n ∙ padded_is n (drop at s))))
 
--- the first i of the n places of a hold the first i elements from `at` on
-pub record EachLoaded {A : Type 0} (G : Form A) (n : ℕ) (s : List ℕ) (at : ℕ) (a : List A) (i : ℕ) : Type 0 where
-  pub places : length a ≡ n
-  pub so_far : i ≤ n
-  pub loaded : take i a ≡ each_at G.load G.width s at i
-
-module _ {A : Type 0} (G : Form A) (s : List ℕ) where
-  -- an element more, at the end
-  each_on : (at i : ℕ) → each_at G.load G.width s at (suc i) ≡ each_at G.load G.width s at i ++ (G.load s (at + G.width * i) ∷ [])
-  unfolding each_at
-  each_on at zero = rw (mul-zero G.width, add-zero at)
-  each_on at (suc i) =
-      let e : at + G.width * suc i ≡ at + G.width + G.width * i = rw mul-suc (omega arith) in
-      rw e (ap (λ (t : List A). G.load s at ∷ t) (each_on (at + G.width) i))
-
-module _ {A : Type 0} {G : Form A} {n : ℕ} {s : List ℕ} {at : ℕ} {a : List A} where
-  pub none_loaded : length a ≡ n → EachLoaded G n s at a 0
-  unfolding each_at
-  none_loaded e = record { places = e; so_far = omega arith; loaded = refl }
-
-  pub each_loaded : {i k : ℕ} (x : A) → i < n → at + G.width * i ≡ k → x ≡ G.load s k → EachLoaded G n s at a i → EachLoaded G n s at (set a i x) (i + 1)
-  each_loaded {i} {k} x h p e v =
-      let long = v.places in
-      record {
-        places = length-set a i x ∙ long;
-        so_far = omega arith;
-        loaded = rw (add-one, take-suc-set a i x (omega arith), v.loaded, each_on G s at i, e, p);
-      }
-
-  pub all_loaded : {i : ℕ} → n ≤ i → EachLoaded G n s at a i → a ≡ (F.each n G).load s at
-  unfolding F.each
-  all_loaded {i} h v =
-      let e : i ≡ n = omega arith in
-      let long = v.places in
-      let q = v.loaded in
-      sym (take_all i a (omega arith)) ∙ q ∙ rw e
-
-one_loaded : {A : Type 0} (G : Form A) (s : List ℕ) (at : ℕ) → each_at G.load G.width s at 1 ≡ G.load s at ∷ []
-unfolding each_at
-one_loaded G s at = refl
-
--- an array whose places all hold the first element holds it in the first
-pub first_loaded : {A : Type 0} {G : Form A} {n : ℕ} {s : List ℕ} {at : ℕ} {x : A} {a : List A} → 1 ≤ n → x ≡ G.load s at → a ≡ replicate n x → EachLoaded G n s at a 1
-first_loaded {A} {G} {n} {s} {at} {x} {a} h e r = record { places = rw r (length-replicate n x); so_far = h; loaded = rw (r, e) (front n h) }
+-- an array whose element at each index is the one that stands there
+pub each_read :
+    {A : Type 0} (G : Form A) (s : List ℕ) (at n : ℕ) (xs : List A)
+    → length xs ≡ n → ((i : ℕ) (d : A) → i < n → get_or xs i d ≡ G.load s (at + G.width * i)) → xs ≡ (F.each n G).load s at
+unfolding F.each each_at
+each_read G s at zero [] e h = refl
+each_read G s at zero (x ∷ xs) e h = let no : ⊥ = omega arith in absurd no
+each_read G s at (suc n) [] e h = let no : ⊥ = omega arith in absurd no
+each_read G s at (suc n) (x ∷ xs) e h =
+    let here : at + G.width * 0 ≡ at = rw mul-zero (omega arith) in
+    let first : x ≡ G.load s at = rw here at (h 0 x (omega arith)) in
+    let rest : xs ≡ (F.each n G).load s (at + G.width) =
+    each_read G s (at + G.width) n xs (omega arith)
+    (λ i d l. h (suc i) d (omega arith) ∙ ap (G.load s) (next i)) in
+    rw (first, rest)
   where
-    front : (n : ℕ) → 1 ≤ n → take 1 (replicate n (G.load s at)) ≡ each_at G.load G.width s at 1
-    front zero h = let no : ⊥ = omega arith in absurd no
-    front (suc n) h = sym (one_loaded G s at)
+    next : (i : ℕ) → at + G.width * suc i ≡ at + G.width + G.width * i
+    next i = rw mul-suc (omega arith)

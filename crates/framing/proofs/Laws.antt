@@ -1,5 +1,6 @@
 -- Laws of what a writer answers and leaves in the buffer, over the header and the parts.
 -- Assumes nothing.
+use Rattle.std.specs.Prelude.{Err, None, Ok, Some}
 use Prim.Native.Nat.{ℕ, ◌+◌, ◌*◌, ◌-◌, ◌≤◌, ◌<◌}
 use mathlib.Core.Path.{◌≡◌, refl, sym, ap, ◌∙◌}
 use mathlib.Core.Bool.{Bool, true, false}
@@ -8,6 +9,8 @@ use native.Mathlib.Nat.{zero-add, add-zero, add_assoc}
 use native.Mathlib.Omega.{arith}
 use lib.ListN.{length, take, drop, length-append, length-drop}
 use borrow.Author.Tests.{lt-ltb, le-ltb, le-leb, lt-leb}
+use Rattle.std.specs.List.{sum}
+use Rattle.std.proofs.lemmas.List.Sums.{sum_by-cons}
 use Rattle.wire.specs.Bytes.{le, put, joined}
 use Rattle.wire.proofs.Numbers.{length-le}
 use Rattle.wire.proofs.Buffer.{put-put, put_next, put_inside, put_part}
@@ -15,8 +18,6 @@ use Rattle.wire.proofs.Lists.{joined_append}
 use Rattle.layout.specs.declared.Header.{Header}
 use Rattle.layout.specs.Encode.{table, header_bytes, packet}
 use Rattle.layout.proofs.Frame.{length-header_bytes, length-table, length-packet}
-use Rattle.framing.specs.declared.Written.TheVariants.{Bytes as Count, Refused}
-use Rattle.framing.specs.declared.Room.TheVariants.{Whole, Short}
 use Rattle.layout.specs.Limits.{answer_length}
 use Rattle.framing.specs.Writing.{writing, answer, buffer, Wrote, room_for, lent_after, pairs, total}
 
@@ -30,31 +31,31 @@ put_whole out bytes h = put_inside out 0 bytes (omega arith) ∙ ap (λ (k : ℕ
 
 -- what a writer answers and leaves: too short a buffer, a limit that is passed, and the bytes put
 module _ (out : List ℕ) (fine : Bool) (bytes : List ℕ) where
-  pub refused_7 : length out < answer_length → Wrote (writing (length out) fine bytes) out (Refused 7) out
+  pub refused_7 : length out < answer_length → Wrote (writing (length out) fine bytes) out (Err 7) out
   unfolding writing answer buffer
   refused_7 h = rw (lt-ltb (length out) answer_length h) (record { answered = refl; buffered = refl })
 
   module _ (room : answer_length ≤ length out) where
-    pub refused_9 : fine ≡ false → Wrote (writing (length out) fine bytes) out (Refused 9) out
+    pub refused_9 : fine ≡ false → Wrote (writing (length out) fine bytes) out (Err 9) out
     unfolding writing answer buffer
     refused_9 f = rw (le-ltb (length out) answer_length room, f) (record { answered = refl; buffered = refl })
 
     pub wrote :
         fine ≡ true → (n : ℕ) (after : List ℕ) → length bytes ≡ n → n ≤ answer_length → after ≡ put out 0 bytes
-        → Wrote (writing (length out) fine bytes) out (Count n) after
+        → Wrote (writing (length out) fine bytes) out (Ok n) after
     unfolding writing answer buffer
     wrote f n after e fits p =
-        rw (le-ltb (length out) answer_length room, f) (record { answered = ap Count (sym e); buffered = p ∙ put_whole out bytes (omega arith) })
+        rw (le-ltb (length out) answer_length room, f) (record { answered = ap Ok (sym e); buffered = p ∙ put_whole out bytes (omega arith) })
 
 -- what the kind 2 writer answers and leaves: too short a part, and the bytes put
 module _ (out bytes : List ℕ) (n : ℕ) (size : length bytes ≡ n) where
-  pub lent_short : length out < n → (Short ≡ room_for (length out) bytes) × (out ≡ lent_after bytes out)
+  pub lent_short : length out < n → (None ≡ room_for (length out) bytes) × (out ≡ lent_after bytes out)
   unfolding room_for lent_after
   lent_short h = rw (lt-leb (length bytes) (length out) (omega arith)) (refl, refl)
 
-  pub lent_whole : n ≤ length out → (after : List ℕ) → after ≡ put out 0 bytes → (Whole n ≡ room_for (length out) bytes) × (after ≡ lent_after bytes out)
+  pub lent_whole : n ≤ length out → (after : List ℕ) → after ≡ put out 0 bytes → (Some n ≡ room_for (length out) bytes) × (after ≡ lent_after bytes out)
   unfolding room_for lent_after
-  lent_whole h after p = rw (le-leb (length bytes) (length out) (omega arith)) (ap Whole (sym size), p ∙ put_whole out bytes (omega arith))
+  lent_whole h after p = rw (le-leb (length bytes) (length out) (omega arith)) (ap Some (sym size), p ∙ put_whole out bytes (omega arith))
 
 -- a packet that fits, written into the part that starts at `at`
 pub put_lent : (out : List ℕ) (at : ℕ) (bytes : List ℕ) → at + length bytes ≤ length out → take at out ++ lent_after bytes (drop at out) ≡ put out at bytes
@@ -70,9 +71,15 @@ pairs-table at [] = refl
 pairs-table at (p ∷ ps) = rw (pairs-table (at + length p) ps)
 
 pub total_lengths : (ps : List (List ℕ)) → total (map length ps) ≡ length (joined ps)
-unfolding total joined
+unfolding total
 total_lengths [] = refl
 total_lengths (p ∷ ps) = rw (length-append, total_lengths ps)
+
+-- the sum of lengths is std's sum
+pub total_sum : (xs : List ℕ) → total xs ≡ sum xs
+unfolding total
+total_sum [] = refl
+total_sum (x ∷ xs) = ap (λ (n : ℕ). x + n) (total_sum xs) ∙ sym (sum_by-cons (λ (y : ℕ). y) x xs)
 
 pub length-parts : (h : Header) (ps : List (List ℕ)) → length (packet h ps) ≡ 32 + 8 * length ps + total (map length ps)
 length-parts h ps = rw (length-packet, total_lengths ps)
@@ -100,7 +107,7 @@ put-pairs l p at [] = refl
 put-pairs l p at (n ∷ ns) = put-pairs (put l p (le 4 at ++ le 4 n)) (p + 8) (at + n) ns ∙ put_pair_next l p at n ns
 
 pub put-parts : (l : List ℕ) (at : ℕ) (ps : List (List ℕ)) → put_parts l at ps ≡ put l at (joined ps)
-unfolding put joined
+unfolding put
 put-parts l at [] = refl
 put-parts l at (p ∷ ps) = put-parts (put l at p) (at + length p) ps ∙ put-put l at p (joined ps)
 
@@ -150,7 +157,6 @@ module _ (h : Header) (message root : List ℕ) (rs : List (List ℕ)) (at : ℕ
       → let ends = at + length message + length root in
       put (put (put (put out 0 (header_bytes h ++ pairs at (length message ∷ (length root ∷ [])))) 48 (pairs ends (map length rs))) at (message ++ root)) ends (joined rs)
       ≡ put out 0 (packet h (message ∷ (root ∷ rs)))
-  unfolding joined
   put-request out =
       let body : joined (message ∷ (root ∷ [])) ≡ message ++ root = rw append-nil in
       rw (← body) (put_lots out h (message ∷ (root ∷ [])) rs at 48 _ (omega arith) refl (rw (body, length-append) (omega arith)))

@@ -1,14 +1,17 @@
 -- "Called alone, ... a writer [passes] 7 and 9": the packet's bytes, or a number.
-use Rattle.std.specs.Prelude.{ℕ, ◌+◌, ◌≡◌, Bool, cond, List, [], ◌∷◌, ◌++◌, ltb, leb, length, drop}
+use Rattle.std.specs.Prelude.{Result, Err, Ok, Option, None, Some, ℕ, ◌+◌, ◌≡◌, Bool, cond, List, [], ◌∷◌, ◌++◌, ltb, leb, length, drop}
 use Rattle.wire.specs.Bytes.{le}
-use Rattle.framing.specs.declared.Written.{Written}
-use Rattle.framing.specs.declared.Written.TheVariants.{Bytes, Refused}
-use Rattle.framing.specs.declared.Room.{Room}
-use Rattle.framing.specs.declared.Room.TheVariants.{Whole, Short}
 use Rattle.layout.specs.Messages.{Message}
 use Rattle.layout.specs.Encode.{encode}
 use Rattle.layout.specs.Decode.{within}
 use Rattle.layout.specs.Limits.{answer_length}
+
+-- a writer's answer: the packet's length, or 01's number; the kind 2 writer's: the packet's length, where the packet fits the part it is lent
+abbrev pub Written : Type 0
+Written = Result ℕ ℕ
+
+abbrev pub Room : Type 0
+Room = Option ℕ
 
 pub data Writing : Type 0 where
   written : List ℕ → Writing
@@ -24,8 +27,8 @@ write_message room m = writing room (within m) (encode m)
 
 -- the answer: how many bytes were written, or the number
 unfoldable pub answer : Writing → Written
-answer (written bytes) = Bytes (length bytes)
-answer (refused n) = Refused n
+answer (written bytes) = Ok (length bytes)
+answer (refused n) = Err n
 
 -- the buffer after: the packet, then what stood there; a refusal writes nothing
 unfoldable pub buffer : Writing → List ℕ → List ℕ
@@ -38,7 +41,7 @@ pub record Wrote (w : Writing) (before : List ℕ) (r : Written) (after : List �
 
 -- the kind 2 writer is lent a part and says whether the packet fits there; where it does not, nothing is written
 unfoldable pub room_for : ℕ → List ℕ → Room
-room_for room bytes = cond (leb (length bytes) room) (Whole (length bytes)) Short
+room_for room bytes = cond (leb (length bytes) room) (Some (length bytes)) None
 
 unfoldable pub lent_after : List ℕ → List ℕ → List ℕ
 lent_after bytes out = cond (leb (length bytes) (length out)) (bytes ++ drop (length bytes) out) out

@@ -7,7 +7,6 @@ use mathlib.Core.List.{List, [], ◌∷◌, ◌++◌, append_assoc}
 use native.Mathlib.Omega.{arith}
 use lib.ListN.{length, get_or, take, set}
 use lib.Seq.{take-suc-set}
-use Rattle.wire.specs.Bytes.{every}
 use Rattle.wire.proofs.Lists.{the_every_at, every_append}
 use Rattle.validity.specs.Keys.{member, disjoint}
 use Rattle.validity.proofs.Repeats.{member_append}
@@ -21,7 +20,7 @@ not_among x xs ys m = left (member x xs) (member x ys) (rw (member_append x xs y
     left false b e = refl
 
 pub disjoint_one : (xs ys : List ℕ) (y : ℕ) → disjoint xs ys ≡ true → member y xs ≡ false → disjoint xs (ys ++ (y ∷ [])) ≡ true
-unfolding disjoint every
+unfolding disjoint
 disjoint_one xs ys y d m = rw (every_append (λ (z : ℕ). not (member z xs)) ys (y ∷ []), d, m)
 
 -- a key that is there is shared

@@ -20,25 +20,12 @@ pub struct IdList {
     pub count: usize,
 }
 
-// Whether one more id is the one that is looked for.
-fn either(found: bool, x: u32, id: u32) -> bool
-    ensures { result ≡ (eqb id x || found) }
-{
-    if id == x { true } else { found }
-}
-
-// Whether an id is among the first `count`. Each is looked at, so that the loop has one end and is compiled to wide comparisons.
+// Whether an id is among the first `count`.
 pub fn contains(ids: &[u32], count: usize, id: u32) -> bool
     requires { count ≤ length ids.now }
     ensures { result ≡ member id (take count ids.now) }
 {
-    let mut found = false;
-    let mut i: usize = 0;
-    while i < count {
-        found = either(found, ids[i], id);
-        i += 1;
-    }
-    found
+    ids[..count].contains(&id)
 }
 
 // Whether an id is among the first `count`; they are looked through only where that may be.
@@ -46,10 +33,7 @@ fn is_among(ids: &[u32], count: usize, id: u32, may_be: bool) -> bool
     requires { (count ≤ length ids.now) × (may_be ≡ false → member id (take count ids.now) ≡ false) }
     ensures { result ≡ member id (take count ids.now) }
 {
-    if !may_be {
-        return false;
-    }
-    contains(ids, count, id)
+    may_be && contains(ids, count, id)
 }
 
 // None twice.
@@ -57,14 +41,12 @@ pub fn is_distinct(ids: &[u32]) -> bool
     ensures { result ≡ distinct ids.now }
 {
     let mut seen = [false; LAST_BYTES];
-    let mut i: usize = 0;
-    while i < ids.len() {
-        let last = validity::ids::last_byte(ids[i]);
-        if is_among(ids, i, ids[i], seen[last]) {
+    for (i, id) in ids.iter().enumerate() {
+        let last = validity::ids::last_byte(*id);
+        if is_among(ids, i, *id, seen[last]) {
             return false;
         }
         seen[last] = true;
-        i += 1;
     }
     true
 }
@@ -76,18 +58,13 @@ pub fn add_new_keys(ids: &mut [u32], count: usize, seen: &mut [bool], list: KeyI
     ensures { (result ≡ disjoint (take count ids.old) (listed list))
         × (result ≡ true → Added ids.old count ids.new seen.new list) }
 {
-    let given = list.ids;
-    let more = list.count;
-    let mut i: usize = 0;
-    while i < more {
-        let key = given[i];
+    for (i, key) in list.ids[..list.count].iter().enumerate() {
         let byte = validity::ids::last_byte(key.0);
         if is_among(ids, count, key.0, seen[byte]) {
             return false;
         }
         ids[count + i] = key.0;
         seen[byte] = true;
-        i += 1;
     }
     true
 }

@@ -1,7 +1,7 @@
 -- Idle on a message gives what the definition says of what the struct and the store stand for.
 -- Assumes nothing.
 use Rattle.std.proofs.Common.{◌≡◌, ℕ, ◌≤◌, Bool, true, false, cond, eqb, List, length, replicate, sym, refl, ◌∙◌, arith, eqb-true, leb-true}
-use mathlib.Core.Option.{Option, some}
+use Rattle.std.specs.Prelude.{Option, Some}
 use lib.ListN.{length-replicate}
 use lib.Seq.{take-length}
 use Rattle.wire.proofs.Buffer.{length-put}
@@ -85,7 +85,7 @@ module _ (clock : ℕ) (p : List ℕ) (s : Coordinator) (store : List ℕ) (byte
       ask_refines (eqb h.ids.sign_id s.ids.sign_id) (eqb h.ids.sign_id c.ids.sign_id) refl
       (λ same. plainly)
       (λ other.
-      rw (start_root clock (part_at p 32) (type_of h.signature_type) (part_at p 40) (root_in p) (some h.ids.sign_id) _ (sym (same_root p l root)), ← iterated-seen h.ids.sign_iter_id s store)
+      rw (start_root clock (part_at p 32) (type_of h.signature_type) (part_at p 40) (root_in p) (Some h.ids.sign_id) _ (sym (same_root p l root)), ← iterated-seen h.ids.sign_iter_id s store)
       (round-refines clock (part_at p 32) (start_in p) (iterated h.ids.sign_iter_id s) store
       (record { bytes = bytes; kept = kept; given = length-put (replicate 32 0) 0 (part_at p 40) ∙ length-replicate {A = ℕ} 32 0 }) short b w))
 

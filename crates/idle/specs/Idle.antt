@@ -1,5 +1,5 @@
 -- Idle, on a message that is taken, at the level of struct and bytes. The store stays.
-use Rattle.std.specs.Prelude.{◌≡◌, ℕ, ◌≤◌, cond, List, length, replicate, ◌==◌}
+use Rattle.std.specs.Prelude.{◌≡◌, ℕ, ◌≤◌, cond, List, length, replicate, ◌==◌, Some}
 use Rattle.wire.specs.Bytes.{put}
 use Rattle.layout.specs.Limits.{message_limit, answer_length}
 use Rattle.layout.specs.declared.Header.{Header}
@@ -10,7 +10,6 @@ use Rattle.step_definition.specs.Calls as A
 use Rattle.state.specs.declared.fields.Coordinator.{Coordinator}
 use Rattle.state.specs.Setters.{set_ids}
 use Rattle.state.specs.Turns.{Turn, turn, error_turn}
-use Rattle.starts.specs.declared.naming.SignId.TheVariants.{Given}
 use Rattle.starts.specs.declared.naming.Start.{Start}
 use Rattle.starts.specs.Starts.{round_turn}
 
@@ -30,7 +29,7 @@ start_in p =
     record {
       signature_type = type_of (header_in p).signature_type;
       root = root_in p;
-      sign_id = Given (header_in p).ids.sign_id;
+      sign_id = Some (header_in p).ids.sign_id;
     }
 
 -- "sets the iteration to its number minus 1, wrapping"

@@ -7,7 +7,7 @@ ghost use Rattle.state.specs.Turns.{Did};
 ghost use Rattle.idle.specs.Idle.{root_in, iterated, Heard, idle_request_turn, idle_turn};
 
 use layout::{Header, Ids, ROOT_LENGTH};
-use starts::naming::{SignId, Start};
+use starts::naming::Start;
 use starts::rounds;
 use state::answers;
 use state::answers::Done;
@@ -17,9 +17,8 @@ use state::fields::Coordinator;
 fn root_of(packet: &[u8]) -> [u8; ROOT_LENGTH]
     ensures { result ≡ root_in packet.now }
 {
-    let mut root: [u8; ROOT_LENGTH] = [0; ROOT_LENGTH];
-    let part = parts::root(packet);
-    wire::copy(&mut root, 0, part);
+    let mut root = [0; ROOT_LENGTH];
+    wire::copy(&mut root, 0, parts::root(packet));
     root
 }
 
@@ -27,16 +26,11 @@ fn root_of(packet: &[u8]) -> [u8; ROOT_LENGTH]
 fn with_iteration(s: Coordinator, iteration: u64) -> Coordinator
     ensures { result ≡ iterated iteration s }
 {
-    let last = s.ids;
-    let sign_iter_id = std::num::wrapping_sub_u64(iteration, 1);
     let ids = Ids {
-        dkg_id: last.dkg_id,
-        sign_id: last.sign_id,
-        sign_iter_id,
+        sign_iter_id: iteration.wrapping_sub(1),
+        ..s.ids
     };
-    let mut t = s;
-    t.ids = ids;
-    t
+    Coordinator { ids, ..s }
 }
 
 // One with the current sign id does nothing. The dkg id is not compared.
@@ -45,22 +39,16 @@ fn nonce_request(s: Coordinator, out: &mut [u8], clock: u64, packet: &[u8], h: H
     ensures { (store : List ℕ)
         → Did (idle_request_turn clock packet.now s store) out.old result store out.new }
 {
-    let got = h.ids;
-    let last = s.ids;
-    if got.sign_id == last.sign_id {
+    if h.ids.sign_id == s.ids.sign_id {
         return answers::quiet(s);
     }
-    let t = with_iteration(s, got.sign_iter_id);
-    let message = parts::message(packet);
-    let root = root_of(packet);
-    let signature_type = layout::signature_type(h.signature_type);
-    let sign_id = SignId::Given(got.sign_id);
+    let t = with_iteration(s, h.ids.sign_iter_id);
     let by = Start {
-        signature_type,
-        root,
-        sign_id,
+        signature_type: layout::signature_type(h.signature_type),
+        root: root_of(packet),
+        sign_id: Some(h.ids.sign_id),
     };
-    rounds::begin(t, out, clock, message, by)
+    rounds::begin(t, out, clock, parts::message(packet), by)
 }
 
 // h: the packet's header.
@@ -72,12 +60,11 @@ pub fn idle(s: Coordinator, out: &mut [u8], clock: u64, packet: &[u8], h: Header
     if h.kind == 1 {
         return nonce_request(s, out, clock, packet, h);
     }
+    // no `match` on the kind: the default arm of one does not tell the proof which kinds it is not
     if h.kind != 5 {
         return answers::quiet(s);
     }
-    let got = h.ids;
-    let last = s.ids;
-    if got.dkg_id != last.dkg_id {
+    if h.ids.dkg_id != s.ids.dkg_id {
         return answers::refused(s, 15);
     }
     answers::quiet(s)

@@ -29,7 +29,7 @@ pub flag : (n : ℕ) → Flag n (is_yes n)
 flag n = record { no_flag = λ e. rw (eq-eqb n 0 e); yes_flag = λ e. rw (ne_eqb n 0 e) }
 
 pub timeout_given : (t : RcTimeout) → TimeoutGiven t (reading (reading_of t))
-unfolding reading reading_of
+unfolding reading_of
 timeout_given t = record { no_flag = λ e. rw (eq-eqb t.given 0 e); yes_flag = λ e. rw (ne_eqb t.given 0 e) }
 
 -- numbers, made key ids and read again

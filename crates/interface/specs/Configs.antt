@@ -1,8 +1,7 @@
 -- The configuration that plain numbers give.
-use Rattle.std.specs.Prelude.{ℕ, Bool, cond, not, map, eqb}
+use Rattle.state.specs.Clock.{Reading}
+use Rattle.std.specs.Prelude.{ℕ, Bool, cond, not, map, eqb, None, Some}
 use Rattle.validity.specs.Keys.{key_of}
-use Rattle.state.specs.declared.fields.Reading.{Reading}
-use Rattle.state.specs.declared.fields.Reading.TheVariants.{Never, At}
 use Rattle.state.specs.declared.fields.Timeouts.{Timeouts}
 use Rattle.configuration.specs.declared.new_config.NewSigner.{NewSigner}
 use Rattle.configuration.specs.declared.new_config.NewConfig.{NewConfig}
@@ -15,7 +14,7 @@ abbrev pub is_yes : ℕ → Bool
 is_yes n = not (eqb n 0)
 
 unfoldable pub reading_of : RcTimeout → Reading
-reading_of t = cond (eqb t.given 0) Never (At t.nanoseconds)
+reading_of t = cond (eqb t.given 0) None (Some t.nanoseconds)
 
 unfoldable pub signer_of : RcSigner → NewSigner
 signer_of s =

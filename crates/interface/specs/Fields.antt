@@ -1,6 +1,5 @@
 -- What plain numbers stand for, field by field: flags, timeouts, signers and configurations against the step definition's own names.
-use Rattle.std.specs.Prelude.{ℕ, ◌≡◌, Bool, true, false, map, take}
-use Rattle.std.proofs.Math.Option.{Option, some, none}
+use Rattle.std.specs.Prelude.{Option, Some, None, ℕ, ◌≡◌, Bool, true, false, map, take}
 use Rattle.step_definition.specs.Configuration.{SignerConfig, Config}
 use Rattle.configuration.specs.NewConfig.{signer_given}
 use Rattle.interface.specs.declared.answers.RcAnswer.{RcAnswer}
@@ -16,8 +15,8 @@ pub record Flag (n : ℕ) (b : Bool) : Type 0 where
 
 -- what counts only where its flag is yes
 pub record Optional {A : Type 0} (n : ℕ) (value : A) (o : Option A) : Type 0 where
-  pub no_flag : n ≡ 0 → o ≡ none
-  pub yes_flag : (n ≡ 0 → ⊥) → o ≡ some value
+  pub no_flag : n ≡ 0 → o ≡ None
+  pub yes_flag : (n ≡ 0 → ⊥) → o ≡ Some value
 
 abbrev pub TimeoutGiven : RcTimeout → Option ℕ → Type 0
 TimeoutGiven t o = Optional t.given t.nanoseconds o

@@ -33,16 +33,13 @@ fn class_number(c: Class) -> u32
 pub fn flat_answer(a: Answer) -> RcAnswer
     ensures { result ≡ flat a }
 {
-    let c = a.class;
-    let class = class_number(c);
-    let mark: u64 = if a.mark { 1 } else { 0 };
     RcAnswer {
-        class,
+        class: class_number(a.class),
         number: a.number,
         first: a.first,
         second: a.second,
         values: a.values as u64,
-        mark,
+        mark: u64::from(a.mark),
         length: a.length as u64,
     }
 }

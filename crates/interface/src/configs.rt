@@ -5,7 +5,7 @@ ghost use Rattle.interface.specs.Configs.{reading_of, signer_of, timeouts_of, co
 
 use configuration::new_config::{KEY_PLACES, NewConfig, NewKeys, NewSigner, SIGNER_PLACES};
 use layout::{KeyId, SignerId};
-use state::fields::{Reading, Timeouts};
+use state::fields::Timeouts;
 
 // A timeout where `given` is not 0.
 #[repr(C)]
@@ -45,91 +45,48 @@ pub struct RcConfig {
     pub signers: [RcSigner; SIGNER_PLACES],
 }
 
-fn reading(t: RcTimeout) -> Reading
+fn reading(t: RcTimeout) -> Option<u64>
     ensures { result ≡ reading_of t }
 {
-    if t.given == 0 {
-        Reading::Never
-    } else {
-        Reading::At(t.nanoseconds)
-    }
-}
-
-fn key_ids(keys: [u32; KEY_PLACES]) -> [KeyId; KEY_PLACES]
-    ensures { result ≡ map key_of keys }
-{
-    let mut ids = [KeyId(0); KEY_PLACES];
-    let mut i: usize = 0;
-    while i < KEY_PLACES {
-        ids[i] = KeyId(keys[i]);
-        i += 1;
-    }
-    ids
+    (t.given != 0).then_some(t.nanoseconds)
 }
 
 fn signer(s: RcSigner) -> NewSigner
     ensures { result ≡ signer_of s }
 {
-    let keys = s.keys;
-    let ids = key_ids(keys);
-    let set = NewKeys {
-        ids,
-        count: s.key_count as usize,
-    };
     NewSigner {
         id: SignerId(s.id),
         has_keys: s.has_keys != 0,
-        keys: set,
+        keys: NewKeys {
+            ids: s.keys.map(KeyId),
+            count: s.key_count as usize,
+        },
     }
 }
 
-fn signers(given: [RcSigner; SIGNER_PLACES]) -> [NewSigner; SIGNER_PLACES]
-    ensures { result ≡ map signer_of given }
+fn timeouts(c: &RcConfig) -> Timeouts
+    ensures { result ≡ timeouts_of c.now }
 {
-    let first = given[0];
-    let e = signer(first);
-    let mut all = [e; SIGNER_PLACES];
-    let mut i: usize = 0;
-    while i < SIGNER_PLACES {
-        let s = given[i];
-        let e = signer(s);
-        all[i] = e;
-        i += 1;
-    }
-    all
-}
-
-fn timeouts(c: RcConfig) -> Timeouts
-    ensures { result ≡ timeouts_of c }
-{
-    let dkg_public = c.dkg_public_timeout;
-    let dkg_private = c.dkg_private_timeout;
-    let dkg_end = c.dkg_end_timeout;
-    let nonce = c.nonce_timeout;
-    let sign = c.sign_timeout;
     Timeouts {
-        dkg_public: reading(dkg_public),
-        dkg_private: reading(dkg_private),
-        dkg_end: reading(dkg_end),
-        nonce: reading(nonce),
-        sign: reading(sign),
+        dkg_public: reading(c.dkg_public_timeout),
+        dkg_private: reading(c.dkg_private_timeout),
+        dkg_end: reading(c.dkg_end_timeout),
+        nonce: reading(c.nonce_timeout),
+        sign: reading(c.sign_timeout),
     }
 }
 
 pub fn new_config(c: RcConfig) -> NewConfig
     ensures { result ≡ config_of c }
 {
-    let given = c.signers;
-    let all = signers(given);
-    let limits = timeouts(c);
     NewConfig {
         num_signers: c.num_signers,
         num_keys: c.num_keys,
         threshold: c.threshold,
         dkg_threshold: c.dkg_threshold,
         sign_threshold: c.sign_threshold,
-        timeouts: limits,
-        signers: all,
+        timeouts: timeouts(&c),
+        signers: c.signers.map(signer),
         count: c.signer_count as usize,
         verify_packet_sigs: c.verify_packet_sigs != 0,
     }

@@ -15,49 +15,15 @@ use state::answers::{Answer, Class, Done};
 fn is_unchanging(n: u32) -> bool
     ensures { result ≡ unchanging n }
 {
-    if n <= 3 {
-        return false;
-    }
-    if n == 10 {
-        return false;
-    }
-    if n == 11 {
-        return false;
-    }
-    if n < 20 {
-        return true;
-    }
-    if n <= 23 {
-        return false;
-    }
-    true
-}
-
-fn either(a: bool, b: bool) -> bool
-    ensures { result ≡ (a || b) }
-{
-    if a { true } else { b }
+    !matches!(n, 0..=3 | 10 | 11 | 20..=23)
 }
 
 // Whether the answer tells that the call gave back the struct that it was given. still: whether an answer of nothing does.
-fn is_quiet(still: bool, a: Answer) -> bool
-    ensures { result ≡ ((still && is_nothing (class_of a.class)) || unchanging a.number) }
+fn is_quiet(still: bool, a: &Answer) -> bool
+    ensures { result ≡ ((still && is_nothing (class_of a.now.class)) || unchanging a.now.number) }
 {
-    let class = a.class;
-    let unchanging = is_unchanging(a.number);
-    match class {
-        Class::Nothing => either(still, unchanging),
-        Class::Packet => unchanging,
-        Class::Job => unchanging,
-        Class::Result => unchanging,
-        Class::Error => unchanging,
-    }
-}
-
-fn is_written(was_saved: bool, quiet: bool) -> bool
-    ensures { result ≡ (was_saved && not quiet) }
-{
-    if was_saved { !quiet } else { false }
+    let nothing = matches!(a.class, Class::Nothing);
+    still && nothing || is_unchanging(a.number)
 }
 
 // was_saved: whether a save left the state's bytes. Other bytes stay. still: whether an answer of nothing tells that the struct is the one that the call
@@ -68,10 +34,8 @@ pub fn keep(state: &mut [u8], was_saved: bool, still: bool, d: Done) -> RcAnswer
         (put state.old 0 (saved d.after)) state.old }
     ensures saves { Saves d.after }
 {
-    let after = d.after;
-    let answer = d.answer;
-    if is_written(was_saved, is_quiet(still, answer)) {
-        saving::states::save(state, after);
+    if was_saved && !is_quiet(still, &d.answer) {
+        saving::states::save(state, &d.after);
     }
-    answers::flat_answer(answer)
+    answers::flat_answer(d.answer)
 }

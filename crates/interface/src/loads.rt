@@ -10,8 +10,7 @@ use state_bytes::STATE_LENGTH;
 pub fn unsaved() -> Coordinator
     ensures { result ≡ unsaved }
 {
-    let zeros = [0u8; STATE_LENGTH];
-    states::state_at(&zeros)
+    states::state_at(&[0u8; STATE_LENGTH])
 }
 
 // The state that bytes count as, and whether a save left them.
@@ -26,12 +25,14 @@ pub fn load(s: &[u8]) -> Loaded
     ensures { (result.saved ≡ is_saved s.now) × (result.state ≡ loaded s.now) }
 {
     if saved_test::states::is_saved(s) {
-        let state = states::state_at(s);
-        return Loaded { saved: true, state };
-    }
-    let state = unsaved();
-    Loaded {
-        saved: false,
-        state,
+        Loaded {
+            saved: true,
+            state: states::state_at(s),
+        }
+    } else {
+        Loaded {
+            saved: false,
+            state: unsaved(),
+        }
     }
 }

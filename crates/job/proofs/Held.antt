@@ -1,61 +1,28 @@
 -- Laws of signers whose lists hold: how many, which, and their lengths in all.
 -- Assumes nothing.
-use Prim.Native.Nat.{ℕ, zero, suc, ◌+◌, ◌*◌, ◌≤◌, ◌<◌}
+use Prim.Native.Nat.{ℕ, ◌+◌, ◌*◌, ◌≤◌, ◌<◌}
 use mathlib.Core.Path.{◌≡◌, refl}
 use mathlib.Core.Bool.{true, ◌&&◌}
 use mathlib.Core.List.{List, [], ◌∷◌, ◌++◌, map}
 use native.Mathlib.Nat.{le_refl, mul-le-mul, suc-mul}
 use native.Mathlib.Omega.{arith}
 use lib.ListN.{length, get_or, take, drop, length-take, length-map, length-append, drop_of_length-le}
-use lib.Seq.{length-take-le}
 use lib.Dec.{leb}
-use mir.Val.{Val}
-use denote.Laws.{Is}
-use denote.Shadow.{shadow}
-use denote.Array.{each}
-use denote.Builtin.{u8}
 use borrow.Author.Tests.{leb-true}
-use Rattle.wire.specs.Bytes.{Bytes, joined, every}
-use Rattle.wire.proofs.Lists.{and_left, and_right}
+use Rattle.wire.specs.Bytes.{joined, every}
+use Rattle.wire.proofs.Lists.{and_left, and_right, the_every_at}
 use Rattle.framing.specs.Writing.{total}
 use Rattle.pieces.specs.Places.{holds}
-use Rattle.pieces.proofs.Given.{Held, held, drop-live, live_at}
+use Rattle.pieces.proofs.Given.{Held, held}
 use Rattle.job.specs.declared.JobPlace.{JobPlace}
 use Rattle.job.specs.declared.JobPlaces.{JobPlaces}
 use Rattle.job.specs.declared.JobList.{JobList}
 use Rattle.job.specs.declared.JobList.TheVariants.{KeyIds, Nonces}
-use Rattle.job.specs.contracts.JobPlace as One
-use Rattle.job.specs.contracts.JobPlaces as All
 use Rattle.job.specs.Job.{key_counts, share_keys_of, job_holds, signers_in, jobs_hold, list_of, width, list_length, share_length, share_lengths}
 
--- the arrays' lengths and bytes, from what a struct's value is known to be
-pub jobs_10 : (ps : JobPlaces) (vs : List Val) → Is All.the_row ps vs → length ps.places ≡ 10
-jobs_10 ps vs g = g.1.1.0.1.0.1
-
-pub counts_16 : (p : JobPlace) (vs : List Val) → Is One.the_row p vs → length p.share_key_counts ≡ 16
-counts_16 p vs g = g.1.1.1.1.1.1.0.1.0.1
-
-each-byte : (ns : List ℕ) (us : List Val) → shadow (each u8.Denot u8.own_val ns us) → Bytes ns
-each-byte [] us g i = omega arith
-each-byte (n ∷ ns) [] g i = absurd g
-each-byte (n ∷ ns) (u ∷ us) g zero = g.0.1
-each-byte (n ∷ ns) (u ∷ us) g (suc i) = each-byte ns us g.1 i
-
-pub counts-bytes : (p : JobPlace) (vs : List Val) → Is One.the_row p vs → Bytes p.share_key_counts
-counts-bytes p vs g = each-byte p.share_key_counts _ g.1.1.1.1.1.1.0.1.1
-
-each_16 :
-    (qs : List JobPlace) (us : List Val) → shadow (each (One.the_row).Denot (One.the_row).own_val qs us)
-    → (i : ℕ) (d : JobPlace) → i < length qs → length (get_or qs i d).share_key_counts ≡ 16
-each_16 [] us g i d l = let z : ⊥ = omega arith in absurd z
-each_16 (q ∷ qs) [] g i d l = absurd g
-each_16 (q ∷ qs) (u ∷ us) g zero d l = counts_16 q (u ∷ []) g.0
-each_16 (q ∷ qs) (u ∷ us) g (suc i) d l = each_16 qs us g.1 i d (omega arith)
-
--- the signer at i, with what a read past the end of the array would give
-abbrev pub signer_at : JobPlaces → ℕ → JobPlace
-signer_at ps i =
-    get_or ps.places i
+-- what a read past the end of the signers would give
+abbrev pub no_place : JobPlace
+no_place =
     record { key_ids = record { at = 0; count = 0 }; nonces = record { at = 0; count = 0 }; shares = record { at = 0; count = 0 }; share_keys_at = 0; share_key_counts = [] }
 
 -- nothing is live from the count on
@@ -124,7 +91,7 @@ module _ (size : ℕ) (ps : JobPlaces) (h : jobs_hold size ps ≡ true) where
 
   -- a number of the signers to which each adds at most k
   in_all : (k : ℕ) (f : List JobPlace → ℕ) → f [] ≡ 0 → ((q : JobPlace) (qs : List JobPlace) → JobHeld size q → f (q ∷ qs) ≤ k + f qs) → f (signers_in ps) ≤ 10 * k
-  unfolding signers_in every
+  unfolding signers_in
   in_all k f none more =
       let few : ps.count ≤ 10 = signers_few in
       let n : length (signers_in ps) ≤ 10 = rw length-take (omega arith) in
@@ -140,29 +107,29 @@ module _ (size : ℕ) (ps : JobPlaces) (h : jobs_hold size ps ≡ true) where
   lists_short list = in_all (16 * width list) (λ qs. total (map (list_length list) qs)) refl (λ q qs g. omega (arith, mul-le-mul (g.list list).few (le_refl (width list))))
 
   pub all_few : length (joined (map share_lengths (signers_in ps))) ≤ 160
-  unfolding joined
   all_few = in_all 16 (λ qs. length (joined (map share_lengths qs))) refl (λ q qs g. rw length-append (omega (arith, shares_few size q g)))
 
   pub all_short : total (joined (map share_lengths (signers_in ps))) ≤ 6400
-  unfolding total joined
+  unfolding total
   all_short = in_all 640 (λ qs. total (joined (map share_lengths qs))) refl (λ q qs g. rw total_append (omega (arith, shares-short size q g)))
 
-  -- the signer at i, then those after it
-  module _ (vs : List Val) (good : Is All.the_row ps vs) (i : ℕ) (l : i < ps.count) where
-    pub signer_holds : job_holds size (signer_at ps i) ≡ true
+  -- the signer at i of those that count, as a walk over them takes it
+  module _ (live : List JobPlace) (e : live ≡ signers_in ps) where
+    pub live_few : length live ≤ 10
     unfolding signers_in
-    signer_holds = live_at (job_holds size) ps.places ps.count i _ l (omega (arith, signers_few, jobs_10 ps vs good)) signers_hold
+    live_few = rw (e, length-take) (omega (arith, signers_few))
 
-    pub signer_held : JobHeld size (signer_at ps i)
-    signer_held = job_held size (signer_at ps i) signer_holds
+    pub live_holds : (i : ℕ) (d : JobPlace) → i < length live → job_holds size (get_or live i d) ≡ true
+    live_holds i d l = the_every_at (job_holds size) live i d (rw e signers_hold) l
 
-    pub signer_live : drop i (take ps.count ps.places) ≡ signer_at ps i ∷ drop (i + 1) (take ps.count ps.places)
-    signer_live = drop-live ps.places ps.count i _ l (omega (arith, signers_few, jobs_10 ps vs good))
+    pub live_held : (i : ℕ) (d : JobPlace) → i < length live → JobHeld size (get_or live i d)
+    live_held i d l = job_held size (get_or live i d) (live_holds i d l)
 
-    pub signer_shares : length (share_lengths (signer_at ps i)) ≡ (signer_at ps i).shares.count
-    unfolding share_lengths key_counts
-    signer_shares =
-        let p = signer_at ps i in
-        let ten : length ps.places ≡ 10 = jobs_10 ps vs good in
-        let sixteen : length p.share_key_counts ≡ 16 = each_16 ps.places _ good.1.1.0.1.1 i _ (omega (arith, signers_few)) in
-        rw length-map (length-take-le p.shares.count p.share_key_counts (omega (arith, signer_held.shares.few)))
+    pub live_lists_short : (list : JobList) → total (map (list_length list) live) ≤ 10 * (16 * width list)
+    live_lists_short list = rw e (lists_short list)
+
+    pub live_all_few : length (joined (map share_lengths live)) ≤ 160
+    live_all_few = rw e all_few
+
+    pub live_all_short : total (joined (map share_lengths live)) ≤ 6400
+    live_all_short = rw e all_short

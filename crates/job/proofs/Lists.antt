@@ -72,7 +72,6 @@ module _ (source : List ℕ) (b : Bytes source) where
   joined_of :
       (F : List JobPlace → List ℕ) (f : JobPlace → List ℕ) → F [] ≡ [] → ((q : JobPlace) (qs : List JobPlace) → JobHeld (length source) q → F (q ∷ qs) ≡ f q ++ F qs)
       → (qs : List JobPlace) → every (job_holds (length source)) qs ≡ true → F qs ≡ joined (map f qs)
-  unfolding every joined
   joined_of F f none more [] e = none
   joined_of F f none more (q ∷ qs) e =
       rw (more q qs (job_held (length source) q (and_left _ _ e)), joined_of F f none more qs (and_right (job_holds (length source) q) _ e))
@@ -80,21 +79,21 @@ module _ (source : List ℕ) (b : Bytes source) where
   -- the lists of all signers as bytes, the shares' lengths and number, the lists' lengths
   module _ (qs : List JobPlace) (e : every (job_holds (length source)) qs ≡ true) where
     pub the_key_bytes : id_bytes (keys_of source qs) ≡ joined (map (list_bytes KeyIds source) qs)
-    unfolding id_bytes keys_of joined
+    unfolding id_bytes keys_of
     the_key_bytes =
         joined_of (λ ps. id_bytes (keys_of source ps)) (list_bytes KeyIds source) refl
         (λ q rest h. joined-map (le 4) (ids_in (list_bytes KeyIds source q)) (keys_of source rest) (ids_at source b 16 q.key_ids (h.list KeyIds)))
         qs e
 
     pub nonces_bytes : joined (map nonce_bytes (nonces_of source qs)) ≡ joined (map (list_bytes Nonces source) qs)
-    unfolding nonces_of joined
+    unfolding nonces_of
     nonces_bytes =
         joined_of (λ ps. joined (map nonce_bytes (nonces_of source ps))) (list_bytes Nonces source) refl
         (λ q rest h. joined-map nonce_bytes (nonces_in (list_bytes Nonces source q)) (nonces_of source rest) (nonces_at source b 16 q.nonces (h.list Nonces)))
         qs e
 
     pub the_share_lengths : map length (map share_bytes (shares_of source qs)) ≡ joined (map share_lengths qs)
-    unfolding shares_of joined
+    unfolding shares_of
     the_share_lengths =
         joined_of (λ ps. map length (map share_bytes (shares_of source ps))) share_lengths refl (λ q rest h. rw (map-append share_bytes, map-append length, lengths_at q h)) qs e
 
@@ -102,7 +101,7 @@ module _ (source : List ℕ) (b : Bytes source) where
     share_count = rw (← the_share_lengths) (sym (length-map (map share_bytes (shares_of source qs)) length))
 
     pub length_lists : (list : JobList) → length (joined (map (list_bytes list source) qs)) ≡ total (map (list_length list) qs)
-    unfolding joined total every
+    unfolding total
     length_lists list = walk qs e
       where
         walk : (ps : List JobPlace) → every (job_holds (length source)) ps ≡ true → length (joined (map (list_bytes list source) ps)) ≡ total (map (list_length list) ps)

@@ -39,7 +39,6 @@ module _ (h : Header) (message root keys nonces : List ℕ) (rs : List (List ℕ
       → let lens = length message ∷ (length root ∷ (length keys ∷ (length nonces ∷ []))) in
       put (put (put (put (put (put out 0 (header_bytes h ++ pairs at lens)) 64 (pairs ends (map length rs))) at (message ++ root)) k keys) n nonces) ends (joined rs)
       ≡ put out 0 (packet h (message ∷ (root ∷ (keys ∷ (nonces ∷ rs)))))
-  unfolding joined
   put-job out k n ends ek en ee =
       let lists = message ∷ (root ∷ (keys ∷ (nonces ∷ []))) in
       let body : joined lists ≡ ((message ++ root) ++ keys) ++ nonces = rw (append-nil, append_assoc, append_assoc) in

@@ -2,22 +2,24 @@
 // source that the caller lends (the coordinator's store); the caller gives the signers in ascending order.
 #![tactic(auto)]
 
-ghost use Rattle.std.specs.Prelude.{◌≡◌, true, [], ◌∷◌, ◌++◌, map, ◌+◌, ◌*◌, ◌≤◌, length, take, drop};
-ghost use Rattle.wire.specs.Bytes.{put, joined};
+ghost use Rattle.std.specs.Prelude.{◌≡◌, true, ℕ, [], ◌∷◌, ◌++◌, map, ◌+◌, ◌*◌, ◌≤◌, length, take, drop};
+ghost use Rattle.wire.specs.Bytes.{every, put, joined};
 ghost use Rattle.layout.specs.Limits.{message_limit, list_limit};
 ghost use Rattle.layout.specs.Types.{type_number};
 ghost use Rattle.layout.specs.Encode.{header_bytes, header_of, share_bytes};
 ghost use Rattle.framing.specs.Writing.{Wrote, pairs, total};
 ghost use Rattle.body.specs.Body.{root_of};
 ghost use Rattle.job.specs.declared.JobList.TheVariants.{KeyIds, Nonces};
-ghost use Rattle.job.specs.Job.{key_counts, job_holds, jobs_hold, signers_in, shares_at_place, shares_of, write_job};
-ghost use Rattle.job.specs.Job.{list_of, list_length, list_bytes, share_lengths};
+ghost use Rattle.job.specs.Job.{key_counts, share_keys_of, job_holds, jobs_hold, signers_in, shares_at_place, shares_of, write_job};
+ghost use Rattle.job.specs.Job.{list_of, width, list_length, list_bytes, share_lengths};
 
 use body::RequestHead;
-use framing::Written;
-use layout::Header;
-use pieces::places;
+use framing::Cursor;
+use layout::{HEADER_LENGTH, ID_LENGTH, LIST_LIMIT, NONCE_LENGTH, PAIR_LENGTH, SHARE_LENGTH};
 use pieces::places::Place;
+
+// The bytes of the header and of the pairs of message, root, key ids and nonces.
+const FRAME_LENGTH: usize = 64;
 
 // Where a signer's lists lie: key ids (4 bytes each), nonces (66), shares (36: id and z_i), and the shares' key ids one after the
 // other, so many for each share.
@@ -36,7 +38,7 @@ pub struct JobPlaces {
     pub count: usize,
 }
 
-// A list that is joined over the signers.
+// A list that is joined over the signers. An enum and no closure, since the contracts and the laws of the lists name a list by it.
 #[derive(Clone, Copy)]
 pub enum JobList {
     KeyIds,
@@ -46,275 +48,211 @@ pub enum JobList {
 // The lengths of the joined lists, and the number of shares.
 #[derive(Clone, Copy)]
 pub struct Totals {
-    pub keys: u32,
-    pub nonces: u32,
-    pub shares: u16,
+    pub keys: usize,
+    pub nonces: usize,
+    pub shares: usize,
 }
 
-// A place for the next pair, and where its part begins.
-#[derive(Clone, Copy)]
-pub struct Cursor {
-    pub pair: u32,
-    pub at: u32,
-}
+impl JobPlace {
+    // The key ids of each share, counted.
+    #[tactic(auto, unfolding(crate::specs::Job::key_counts))]
+    fn counts(&self) -> &[u8]
+        ensures { (result.now ≡ key_counts self.now) × (length result.now ≤ list_limit) }
+    {
+        &self.share_key_counts[..self.shares.count.min(LIST_LIMIT)]
+    }
 
-// The key ids of all shares of a signer.
-fn share_key_total(p: JobPlace) -> usize
-    requires { p.shares.count ≤ list_limit }
-    ensures { result ≡ total (key_counts p) }
-{
-    let counts = p.share_key_counts;
-    let shares = p.shares;
-    let count = shares.count;
-    let mut sum: usize = 0;
-    let mut i: usize = 0;
-    while i < count {
-        sum += counts[i] as usize;
-        i += 1;
-    }
-    sum
-}
-
-fn is_job_held(size: usize, p: JobPlace) -> bool
-    ensures { result ≡ job_holds size p }
-{
-    let keys = p.key_ids;
-    if !places::is_held(size, layout::ID_LENGTH, layout::LIST_LIMIT, keys) {
-        return false;
-    }
-    let nonces = p.nonces;
-    if !places::is_held(size, layout::NONCE_LENGTH, layout::LIST_LIMIT, nonces) {
-        return false;
-    }
-    let shares = p.shares;
-    if !places::is_held(size, layout::SHARE_LENGTH, layout::LIST_LIMIT, shares) {
-        return false;
-    }
-    let count = share_key_total(p);
-    places::is_held(
-        size,
-        layout::ID_LENGTH,
-        layout::LIST_LIMIT,
+    // The place of the shares' key ids, as many as the counts say.
+    #[tactic(auto, unfolding(crate::specs::Job::share_keys_of), using(framing::proofs::Laws::total_sum))]
+    fn share_keys(&self) -> Place
+        ensures { result ≡ share_keys_of self.now }
+    {
         Place {
-            at: p.share_keys_at,
-            count,
-        },
-    )
-}
-
-pub fn are_jobs_held(size: usize, ps: JobPlaces) -> bool
-    ensures { result ≡ jobs_hold size ps }
-{
-    let count = ps.count;
-    if layout::SIGNER_LIMIT < count {
-        return false;
-    }
-    let places = ps.places;
-    let mut i: usize = 0;
-    while i < count {
-        let p = places[i];
-        if !is_job_held(size, p) {
-            return false;
+            at: self.share_keys_at,
+            count: self.counts().iter().map(|n| *n as usize).sum(),
         }
-        i += 1;
     }
-    true
+
+    #[tactic(auto, unfolding(crate::specs::Job::job_holds))]
+    fn is_held(&self, size: usize) -> bool
+        ensures { result ≡ job_holds size self.now }
+    {
+        self.key_ids.is_held(size, ID_LENGTH, LIST_LIMIT)
+            && self.nonces.is_held(size, NONCE_LENGTH, LIST_LIMIT)
+            && self.shares.is_held(size, SHARE_LENGTH, LIST_LIMIT)
+            && self.share_keys().is_held(size, ID_LENGTH, LIST_LIMIT)
+    }
 }
 
-// The totals of the signers' lists.
-fn list_totals(size: usize, ps: JobPlaces) -> Totals
-    requires { jobs_hold size ps ≡ true }
-    ensures { (result.keys ≡ total (map (list_length KeyIds) (signers_in ps)))
-        × (result.nonces ≡ total (map (list_length Nonces) (signers_in ps)))
-        × (result.shares ≡ length (joined (map share_lengths (signers_in ps)))) }
+fn are_each_held(places: &[JobPlace], size: usize) -> bool
+    ensures { result ≡ every (job_holds size) places.now }
 {
-    let places = ps.places;
-    let count = ps.count;
-    let mut keys: u32 = 0;
-    let mut nonces: u32 = 0;
-    let mut shares: u16 = 0;
-    let mut i: usize = 0;
-    while i < count {
-        let p = places[i];
-        let k = p.key_ids;
-        let n = p.nonces;
-        let s = p.shares;
-        keys += (k.count * layout::ID_LENGTH) as u32;
-        nonces += (n.count * layout::NONCE_LENGTH) as u32;
-        shares += s.count as u16;
-        i += 1;
+    places.iter().all(|p| p.is_held(size))
+}
+
+impl JobPlaces {
+    // The signers that count.
+    #[tactic(auto, unfolding(crate::specs::Job::signers_in))]
+    fn live(&self) -> &[JobPlace]
+        ensures { result.now ≡ signers_in self.now }
+    {
+        &self.places[..self.count.min(layout::SIGNER_LIMIT)]
     }
-    Totals {
-        keys,
-        nonces,
-        shares,
+
+    // Whether they are few enough and the lists of each lie in a source of `size` bytes.
+    #[tactic(auto, unfolding(crate::specs::Job::jobs_hold))]
+    pub fn are_held(&self, size: usize) -> bool
+        ensures { result ≡ jobs_hold size self.now }
+    {
+        self.count <= layout::SIGNER_LIMIT && are_each_held(self.live(), size)
+    }
+
+    // The totals of the signers' lists.
+    fn totals(&self) -> Totals
+        requires { (size : ℕ) × (jobs_hold size self.now ≡ true) }
+        ensures { (result.keys ≡ total (map (list_length KeyIds) (signers_in self.now)))
+            × (result.nonces ≡ total (map (list_length Nonces) (signers_in self.now)))
+            × (result.shares ≡ length (joined (map share_lengths (signers_in self.now)))) }
+    {
+        let mut t = Totals {
+            keys: 0,
+            nonces: 0,
+            shares: 0,
+        };
+        for p in self.live() {
+            t.keys += p.key_ids.count * ID_LENGTH;
+            t.nonces += p.nonces.count * NONCE_LENGTH;
+            t.shares += p.counts().len();
+        }
+        t
+    }
+}
+
+impl JobList {
+    fn width(self) -> usize
+        ensures { result ≡ width self }
+    {
+        match self {
+            JobList::KeyIds => ID_LENGTH,
+            JobList::Nonces => NONCE_LENGTH,
+        }
+    }
+
+    fn place(self, p: &JobPlace) -> Place
+        ensures { result ≡ list_of self p.now }
+    {
+        match self {
+            JobList::KeyIds => p.key_ids,
+            JobList::Nonces => p.nonces,
+        }
     }
 }
 
 // The header and the first four pairs; the next pair's place, and where the first share begins.
-fn put_job_frame(out: &mut [u8], head: RequestHead, len: u32, t: Totals) -> Cursor
+fn put_job_frame(out: &mut [u8], head: &RequestHead, len: usize, t: Totals) -> Cursor
     requires { (len ≤ message_limit) × (t.keys ≤ 640) × (t.nonces ≤ 10560) × (t.shares ≤ 160) }
-    ensures { (result.pair ≡ 64) × (result.at ≡ 64 + 8 * t.shares + len + length (root_of head) + t.keys + t.nonces)
+    ensures { (result.pair ≡ 64) × (result.at ≡ 64 + 8 * t.shares + len + length (root_of head.now) + t.keys + t.nonces)
         × (out.new ≡ put out.old 0
-        (header_bytes (header_of 32 (type_number head.signature_type) (4 + t.shares) 0 head.ids)
-        ++ pairs (64 + 8 * t.shares) (len ∷ (length (root_of head) ∷ (t.keys ∷ (t.nonces ∷ [])))))) }
+        (header_bytes (header_of 32 (type_number head.now.signature_type) (4 + t.shares) 0 head.now.ids)
+        ++ pairs (64 + 8 * t.shares) (len ∷ (length (root_of head.now) ∷ (t.keys ∷ (t.nonces ∷ [])))))) }
 {
-    let signature_type = head.signature_type;
-    let type_number = layout::type_number(signature_type);
-    let root_len = layout::root_length(type_number) as u32;
-    let ids = head.ids;
-    let at = 64 + 8 * (t.shares as u32);
-    let keys_at = at + len + root_len;
-    let nonces_at = keys_at + t.keys;
-    framing::put_header(
-        out,
-        Header {
-            kind: 32,
-            signature_type: type_number,
-            pairs: 4 + t.shares,
-            signer_id: 0,
-            ids,
-        },
-    );
-    framing::put_pair(out, 32, at, len);
-    framing::put_pair(out, 40, at + len, root_len);
-    framing::put_pair(out, 48, keys_at, t.keys);
-    framing::put_pair(out, 56, nonces_at, t.nonces);
-    Cursor {
-        pair: 64,
-        at: nonces_at + t.nonces,
-    }
+    let first = Cursor {
+        pair: HEADER_LENGTH,
+        at: FRAME_LENGTH + PAIR_LENGTH * t.shares,
+    };
+    framing::put_header(out, head.header(32, 4 + t.shares as u16));
+    let lists = first.put(out, len).put(out, head.root().len());
+    lists.put(out, t.keys).put(out, t.nonces)
 }
 
 // The pairs of one signer's shares.
-fn put_share_pairs(out: &mut [u8], c: Cursor, p: JobPlace) -> Cursor
-    requires { (p.shares.count ≤ list_limit) × (c.pair ≤ 65536) × (c.at ≤ 1048576) }
-    ensures { (result.pair ≡ c.pair + 8 * length (share_lengths p)) × (result.at ≡ c.at + total (share_lengths p))
-        × (out.new ≡ put out.old c.pair (pairs c.at (share_lengths p))) }
+fn put_share_pairs(out: &mut [u8], first: Cursor, p: &JobPlace) -> Cursor
+    requires { (first.pair ≤ 65536) × (first.at ≤ 1048576) × ((size : ℕ) × (job_holds size p.now ≡ true)) }
+    ensures { (result.pair ≡ first.pair + 8 * length (share_lengths p.now)) × (result.at ≡ first.at + total (share_lengths p.now))
+        × (out.new ≡ put out.old first.pair (pairs first.at (share_lengths p.now))) }
 {
-    let counts = p.share_key_counts;
-    let shares = p.shares;
-    let count = shares.count;
-    let mut pair = c.pair;
-    let mut at = c.at;
-    let mut i: usize = 0;
-    while i < count {
-        let len = 36 + (counts[i] as u32) * 4;
-        framing::put_pair(out, pair, at, len);
-        pair += 8;
-        at += len;
-        i += 1;
+    let mut next = first;
+    for n in p.counts() {
+        next = next.put(out, SHARE_LENGTH + *n as usize * ID_LENGTH);
     }
-    Cursor { pair, at }
+    next
 }
 
 // The pairs of all signers' shares. Answers where the packet ends.
-fn put_all_share_pairs(out: &mut [u8], c: Cursor, size: usize, ps: JobPlaces) -> u32
-    requires { (c.pair ≡ 64) × (c.at ≤ 13000) × (jobs_hold size ps ≡ true) }
-    ensures { (result ≡ c.at + total (joined (map share_lengths (signers_in ps))))
-        × (out.new ≡ put out.old c.pair (pairs c.at (joined (map share_lengths (signers_in ps))))) }
+fn put_all_share_pairs(out: &mut [u8], first: Cursor, ps: &JobPlaces) -> usize
+    requires { (first.pair ≡ 64) × (first.at ≤ 13000) × ((size : ℕ) × (jobs_hold size ps.now ≡ true)) }
+    ensures { (result ≡ first.at + total (joined (map share_lengths (signers_in ps.now))))
+        × (out.new ≡ put out.old first.pair (pairs first.at (joined (map share_lengths (signers_in ps.now))))) }
 {
-    let places = ps.places;
-    let count = ps.count;
-    let mut next = c;
-    let mut i: usize = 0;
-    while i < count {
-        let p = places[i];
+    let mut next = first;
+    for p in ps.live() {
         next = put_share_pairs(out, next, p);
-        i += 1;
     }
     next.at
 }
 
-// The bytes of one list of a signer.
-fn list_place(list: JobList, p: JobPlace) -> Place
-    requires { (list_of list p).count ≤ list_limit }
-    ensures { (result.at ≡ (list_of list p).at) × (result.count ≡ list_length list p) }
-{
-    let keys = p.key_ids;
-    let nonces = p.nonces;
-    match list {
-        JobList::KeyIds => Place {
-            at: keys.at,
-            count: keys.count * layout::ID_LENGTH,
-        },
-        JobList::Nonces => Place {
-            at: nonces.at,
-            count: nonces.count * layout::NONCE_LENGTH,
-        },
-    }
-}
-
 // A list of every signer, joined from `at` on.
-fn put_lists(out: &mut [u8], at: u32, list: JobList, source: &[u8], ps: JobPlaces)
-    requires { (at ≤ 13000) × (jobs_hold (length source.now) ps ≡ true) }
-    ensures { out.new ≡ put out.old at (joined (map (list_bytes list source.now) (signers_in ps))) }
+fn put_lists(out: &mut [u8], at: usize, list: JobList, source: &[u8], ps: &JobPlaces)
+    requires { (at ≤ 13000) × (jobs_hold (length source.now) ps.now ≡ true) }
+    ensures { out.new ≡ put out.old at (joined (map (list_bytes list source.now) (signers_in ps.now))) }
 {
-    let places = ps.places;
-    let count = ps.count;
     let mut next = at;
-    let mut i: usize = 0;
-    while i < count {
-        let p = places[i];
-        let place = list_place(list, p);
-        let bytes = wire::part(source, place.at, place.count);
-        wire::copy(out, next as usize, bytes);
-        next += place.count as u32;
-        i += 1;
+    for p in ps.live() {
+        let bytes = list.place(p).bytes(source, list.width());
+        wire::copy(out, next, bytes);
+        next += bytes.len();
     }
 }
 
 // One share: id and z_i, then its key ids.
-fn put_share(out: &mut [u8], at: u32, source: &[u8], share_at: usize, keys_at: usize, count: usize)
-    requires { (count ≤ 255) × (share_at + 36 ≤ length source.now) }
+fn put_share(
+    out: &mut [u8],
+    at: usize,
+    source: &[u8],
+    share_at: usize,
+    keys_at: usize,
+    count: usize,
+)
+    requires { (at ≤ 1048576) × (count ≤ 255) × (share_at + 36 ≤ length source.now) }
     ensures { out.new ≡ put out.old at
         (take 36 (drop share_at source.now) ++ take (count * 4) (drop keys_at source.now)) }
 {
-    let head = wire::part(source, share_at, layout::SHARE_LENGTH);
-    let keys = wire::part(source, keys_at, count * layout::ID_LENGTH);
-    let start = at as usize;
-    wire::copy(out, start, head);
-    wire::copy(out, start + layout::SHARE_LENGTH, keys);
+    wire::copy(out, at, wire::part(source, share_at, SHARE_LENGTH));
+    wire::copy(
+        out,
+        at + SHARE_LENGTH,
+        wire::part(source, keys_at, count * ID_LENGTH),
+    );
 }
 
 // One signer's shares, one after the other from `at`. Answers where they end.
-fn put_shares(out: &mut [u8], at: u32, source: &[u8], p: JobPlace) -> u32
-    requires { (at ≤ 1048576) × (job_holds (length source.now) p ≡ true) }
-    ensures { (result ≡ at + total (share_lengths p))
-        × (out.new ≡ put out.old at (joined (map share_bytes (shares_at_place source.now p)))) }
+fn put_shares(out: &mut [u8], at: usize, source: &[u8], p: &JobPlace) -> usize
+    requires { (at ≤ 1000000) × (job_holds (length source.now) p.now ≡ true) }
+    ensures { (result ≡ at + total (share_lengths p.now))
+        × (out.new ≡ put out.old at (joined (map share_bytes (shares_at_place source.now p.now)))) }
 {
-    let counts = p.share_key_counts;
-    let shares = p.shares;
-    let count = shares.count;
     let mut next = at;
-    let mut share_at = shares.at;
+    let mut share_at = p.shares.at;
     let mut keys_at = p.share_keys_at;
-    let mut i: usize = 0;
-    while i < count {
-        let n = counts[i] as usize;
-        put_share(out, next, source, share_at, keys_at, n);
-        share_at += layout::SHARE_LENGTH;
-        keys_at += n * layout::ID_LENGTH;
-        next += 36 + (n as u32) * 4;
-        i += 1;
+    for n in p.counts() {
+        let count = *n as usize;
+        put_share(out, next, source, share_at, keys_at, count);
+        share_at += SHARE_LENGTH;
+        keys_at += count * ID_LENGTH;
+        next += SHARE_LENGTH + count * ID_LENGTH;
     }
     next
 }
 
 // All signers' shares.
-fn put_all_shares(out: &mut [u8], at: u32, source: &[u8], ps: JobPlaces)
-    requires { (at ≤ 13000) × (jobs_hold (length source.now) ps ≡ true) }
+fn put_all_shares(out: &mut [u8], at: usize, source: &[u8], ps: &JobPlaces)
+    requires { (at ≤ 13000) × (jobs_hold (length source.now) ps.now ≡ true) }
     ensures { out.new ≡ put out.old at
-        (joined (map share_bytes (shares_of source.now (signers_in ps)))) }
+        (joined (map share_bytes (shares_of source.now (signers_in ps.now)))) }
 {
-    let places = ps.places;
-    let count = ps.count;
     let mut next = at;
-    let mut i: usize = 0;
-    while i < count {
-        let p = places[i];
+    for p in ps.live() {
         next = put_shares(out, next, source, p);
-        i += 1;
     }
 }
 
@@ -325,28 +263,20 @@ pub fn write_job(
     message: &[u8],
     source: &[u8],
     ps: JobPlaces,
-) -> Written
+) -> Result<usize, u8>
     ensures { Wrote (write_job (length out.old) head message.now source.now ps)
         out.old result out.new }
 {
-    if out.len() < layout::ANSWER_LENGTH {
-        return Written::Refused(7);
-    }
-    if layout::MESSAGE_LIMIT < message.len() {
-        return Written::Refused(9);
-    }
-    let size = source.len();
-    if !are_jobs_held(size, ps) {
-        return Written::Refused(9);
-    }
-    let t = list_totals(size, ps);
-    let cursor = put_job_frame(out, head, message.len() as u32, t);
-    let end = put_all_share_pairs(out, cursor, size, ps);
-    body::put_body(out, 64 + 8 * (t.shares as u32), head, message);
-    let shares_at = cursor.at;
-    let nonces_at = shares_at - t.nonces;
-    put_lists(out, nonces_at - t.keys, JobList::KeyIds, source, ps);
-    put_lists(out, nonces_at, JobList::Nonces, source, ps);
-    put_all_shares(out, shares_at, source, ps);
-    Written::Bytes(end as usize)
+    framing::room(out)?;
+    framing::limits(message.len() <= layout::MESSAGE_LIMIT)?;
+    framing::limits(ps.are_held(source.len()))?;
+    let t = ps.totals();
+    let shares = put_job_frame(out, &head, message.len(), t);
+    let end = put_all_share_pairs(out, shares, &ps);
+    body::put_body(out, FRAME_LENGTH + PAIR_LENGTH * t.shares, &head, message);
+    let nonces_at = shares.at - t.nonces;
+    put_lists(out, nonces_at - t.keys, JobList::KeyIds, source, &ps);
+    put_lists(out, nonces_at, JobList::Nonces, source, &ps);
+    put_all_shares(out, shares.at, source, &ps);
+    Ok(end)
 }

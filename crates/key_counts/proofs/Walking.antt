@@ -4,7 +4,7 @@ use Prim.Native.Nat.{ℕ, zero, suc, ◌+◌, ◌<◌, ◌≤◌}
 use mathlib.Core.Path.{◌≡◌, refl, sym, ap}
 use mathlib.Core.Bool.{Bool, true, false, cond}
 use mathlib.Core.List.{List, [], ◌∷◌}
-use mathlib.Core.Option.{Option, some}
+use Rattle.std.specs.Prelude.{Option, Some}
 use native.Mathlib.Omega.{arith}
 use lib.Seq.{get_or-take}
 use lib.ListN.{length, get_or, take, drop, length-take, length-map, drop_of_length-le}
@@ -32,9 +32,9 @@ in_each P [] h = tt
 in_each P (e ∷ es) h = (h e here, in_each P es (λ t i. h t (later i)))
 
 abbrev listing : Config → SignerSlot → Option SignerConfig
-listing g e = some (signer_in g.signers e)
+listing g e = Some (signer_in g.signers e)
 
-listing_id : (g : Config) (e : SignerSlot) (y : SignerConfig) → listing g e ≡ some y → config_signer_id y ≡ e.id
+listing_id : (g : Config) (e : SignerSlot) (y : SignerConfig) → listing g e ≡ Some y → config_signer_id y ≡ e.id
 unfolding signer_in
 listing_id g e y h = let q : signer_in g.signers e ≡ y = cc in sym (ap config_signer_id q)
 
@@ -52,7 +52,7 @@ agrees g = in_each (Agrees g) (slots_of g) each
 
     each : (e : SignerSlot) → In e (slots_of g) → Agrees g e
     each e i =
-        let f : signer_of (config_of g) e.id ≡ some (signer_in g.signers e) = find_in config_signer_id (listing g) (listing_id g) e (slots_of g) (slots_rise 0 (ids_of g)) i in
+        let f : signer_of (config_of g) e.id ≡ Some (signer_in g.signers e) = find_in config_signer_id (listing g) (listing_id g) e (slots_of g) (slots_rise 0 (ids_of g)) i in
         rw f (by (get_or g.signers e.slot no_entry).has_keys (listed (get_or g.signers e.slot no_entry).keys))
 
 -- the view's responders have these keys, at any store

@@ -1,7 +1,7 @@
 -- Key sets of signers, joined and counted along the signers in order.
-use Rattle.std.specs.Prelude.{ℕ, ◌+◌, ◌*◌, ◌≤◌, ◌≡◌, Bool, true, false, cond, List, [], ◌∷◌, length, take, get_or}
+use Rattle.std.specs.Prelude.{ℕ, ◌+◌, ◌≤◌, ◌≡◌, Bool, true, false, cond, List, [], ◌∷◌, length, take, get_or}
 use Rattle.wire.specs.Bytes.{every}
-use Rattle.layout.specs.Limits.{list_limit, signer_limit}
+use Rattle.layout.specs.Limits.{signer_limit}
 use Rattle.validity.specs.Keys.{listed, member}
 use Rattle.step_definition.specs.Ids.{insert_all}
 use Rattle.step_definition.specs.Demand3.{Ascending}

@@ -22,11 +22,7 @@ fn set_size(e: SignerEntry) -> usize
     requires { entry_within e ≡ true }
     ensures { (result ≡ length (set_of e)) × (result ≤ list_limit) }
 {
-    if !e.has_keys {
-        return 0;
-    }
-    let keys = e.keys;
-    keys.count
+    if e.has_keys { e.keys.count } else { 0 }
 }
 
 // Along the order, so that of equal ids only the first slot counts.
@@ -34,17 +30,11 @@ fn flagged_sizes(o: Order, g: Config, flags: [bool; SIGNER_LIMIT]) -> usize
     requires { InOrder o g }
     ensures { result ≡ flagged_sizes g.signers flags (ordered o) }
 {
-    let signers = g.signers;
-    let places = o.slots;
     let mut total: usize = 0;
-    let mut k = o.count;
-    while 0 < k {
-        k -= 1;
-        let e = places[k];
-        let i = e.slot;
+    for k in (0..o.count).rev() {
+        let i = o.slots[k].slot;
         if flags[i] {
-            let entry = signers[i];
-            total += set_size(entry);
+            total += set_size(g.signers[i]);
         }
     }
     total
@@ -64,22 +54,14 @@ fn held_keys(o: Order, g: Config, row: SignRoundInfo) -> usize
     requires { InOrder o g }
     ensures { result ≡ length (held_keys g.signers row.slots (ordered o)) }
 {
-    let signers = g.signers;
-    let slots = row.slots;
-    let places = o.slots;
     let mut set = IdList {
         ids: [0; KEY_LIMIT],
         count: 0,
     };
-    let mut k = o.count;
-    while 0 < k {
-        k -= 1;
-        let e = places[k];
-        let i = e.slot;
-        let slot = slots[i];
-        if slot.held {
-            let entry = signers[i];
-            set = keys::add_entry(set, entry);
+    for k in (0..o.count).rev() {
+        let i = o.slots[k].slot;
+        if row.slots[i].held {
+            set = keys::add_entry(set, g.signers[i]);
         }
     }
     set.count

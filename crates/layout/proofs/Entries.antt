@@ -27,7 +27,7 @@ length-entries w (suc k) s = ap suc (length-entries w k (drop w s))
 
 -- entries of one width, cut again
 pub entries-joined : (w : ℕ) (ps : List (List ℕ)) → All (λ (p : List ℕ). length p ≡ w) ps → entries w (length ps) (joined ps) ≡ ps
-unfolding entries joined
+unfolding entries
 entries-joined w [] h = refl
 entries-joined w (p ∷ ps) h = rw (take_at p (joined ps) w h.0, drop_at p (joined ps) w h.0) (ap (λ (l : List (List ℕ)). p ∷ l) (entries-joined w ps h.1))
 
@@ -40,7 +40,7 @@ module _ (w k : ℕ) (s : List ℕ) (e : length s ≡ suc k * w) where
   after = rw length-drop (omega (arith, suc-mul k w))
 
 pub joined-entries : (w k : ℕ) (s : List ℕ) → length s ≡ k * w → joined (entries w k s) ≡ s
-unfolding entries joined
+unfolding entries
 joined-entries w zero [] e = refl
 joined-entries w zero (x ∷ s) e = let z : ⊥ = omega (arith, zero-mul w) in absurd z
 joined-entries w (suc k) s e = rw (joined-entries w k (drop w s) (after w k s e)) (take-append-drop w s)

@@ -98,7 +98,7 @@ pub tiles-table :
     (s : List ℕ) → length s < 2 ^ 32 → (qs : List (List ℕ)) (p at : ℕ) (rest : List ℕ)
     → at ≤ length s → drop p s ≡ table at qs ++ rest → drop at s ≡ joined qs
     → (tiles s p (length qs) at ≡ true) × (parts_from s p (length qs) ≡ qs)
-unfolding table joined tiles parts_from part_at
+unfolding table tiles parts_from part_at
 tiles-table s small [] p at rest l t j = (eq-eqb at (length s) (omega (arith, length-drop at s, ap length j)), refl)
 tiles-table s small (q ∷ qs) p at rest l t j =
     let size : length s - at ≡ length q + length (joined qs) = sym (length-drop at s) ∙ ap length j ∙ length-append q (joined qs) in
@@ -120,7 +120,7 @@ tiles-le s p (suc n) at t = omega (arith, tiles-le s (p + 8) n (at + number_at 4
 pub table-over :
     (s : List ℕ) → Bytes s → (p n at : ℕ) → tiles s p n at ≡ true → p + 8 * n ≤ length s
     → (table at (parts_from s p n) ++ drop (p + 8 * n) s ≡ drop p s) × (joined (parts_from s p n) ≡ drop at s)
-unfolding table joined tiles parts_from part_at
+unfolding table tiles parts_from part_at
 table-over s b p zero at t l =
     let e : p + 8 * 0 ≡ p = omega arith in
     (ap (λ (k : ℕ). drop k s) e, sym (drop_of_length-le s {i = at} (omega (arith, eqb-true at (length s) t))))

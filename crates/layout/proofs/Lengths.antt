@@ -6,7 +6,7 @@ use mathlib.Core.Bool.{true}
 use mathlib.Core.List.{List, map}
 use native.Mathlib.Omega.{arith}
 use lib.ListN.{length, length-append, length-map}
-use Rattle.wire.specs.Bytes.{joined, All}
+use Rattle.wire.specs.Bytes.{All}
 use Rattle.wire.proofs.Lists.{all_imp, all_map, length-joined-le}
 use Rattle.layout.specs.Limits.{message_limit, signer_limit, answer_length}
 use Rattle.layout.specs.Messages.{Nonce, NonceRequest, NonceResponse, SignatureShare, SignatureShareRequest, Job, Arrival}
@@ -42,14 +42,14 @@ pub record SharesLimited (n : ℕ) (ss : List SignatureShare) : Type 0 where
 -- 32 + 2 * 8 + 256 + 32
 pub nonce_request-length :
     (r : NonceRequest) → length r.message ≤ message_limit → length r.root ≤ 32 → length (encode (nonce_request r)) ≤ 336
-unfolding encode header parts joined
+unfolding encode header parts
 nonce_request-length r m t = rw length-packet (simp length-append (omega arith))
 
 -- 32 + 2 * 8 + 256 + 32, and 8 + 1432 for each response
 pub share_request-length :
     {n : ℕ} (r : SignatureShareRequest) → length r.message ≤ message_limit → length r.root ≤ 32
     → ResponsesLimited n r.nonce_responses → length (encode (signature_share_request r)) ≤ 336 + 1440 * n
-unfolding encode header parts joined
+unfolding encode header parts
 share_request-length r m t a =
     let qs = r.nonce_responses in
     let n : length (map encode_response qs) ≡ length qs = length-map qs encode_response in
@@ -61,7 +61,7 @@ share_request-length r m t a =
 pub job-length :
     {n : ℕ} (j : Job) → n ≤ signer_limit → length j.message ≤ message_limit → length j.root ≤ 32 → length j.key_ids ≤ n * 16
     → NoncesLimited n j.nonces → SharesLimited n j.signature_shares → length (encode_job j) ≤ answer_length
-unfolding encode_job joined
+unfolding encode_job
 job-length j few m t k ns ss =
     let count = length-map j.signature_shares share_bytes in
     let nonces = length-nonces j.nonces ns.each in
@@ -70,13 +70,13 @@ job-length j few m t k ns ss =
 
 pub nonce_timeout-length :
     (waiters malicious : List ℕ) → length (encode_nonce_timeout waiters malicious) ≡ 48 + 4 * length waiters + 4 * length malicious
-unfolding encode_nonce_timeout joined
+unfolding encode_nonce_timeout
 nonce_timeout-length waiters malicious = rw length-packet (simp (length-append, length-id_bytes) (omega arith))
 
 pub insufficient-signers-length : (malicious : List ℕ) → length (encode_insufficient_signers malicious) ≡ 40 + 4 * length malicious
-unfolding encode_insufficient_signers joined
+unfolding encode_insufficient_signers
 insufficient-signers-length malicious = rw length-packet (simp (length-append, length-id_bytes) (omega arith))
 
 pub arrivals-length : (arrivals : List Arrival) → length (encode_arrivals arrivals) ≡ 48 + 12 * length arrivals
-unfolding encode_arrivals joined
+unfolding encode_arrivals
 arrivals-length arrivals = rw length-packet (simp (length-append, length-id_bytes, length-clock_bytes, length-map) (omega arith))

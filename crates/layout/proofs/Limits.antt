@@ -29,7 +29,7 @@ root-length TaprootRoot = omega arith
 
 -- 32 + 3 * 8 + 256 + 16 * 4 + 16 * 66
 pub response-length : (r : NonceResponse) → ResponseFits r → response_within r ≡ true → length (encode_response r) ≤ 1432
-unfolding encode_response response_parts response_within joined
+unfolding encode_response response_parts response_within
 response-length r f w =
     let ab : leb (length r.message) 256 && leb (length r.key_ids) 16 ≡ true = and_left _ _ w in
     let a : length r.message ≤ 256 = leb-true _ 256 (and_left _ _ ab) in
@@ -38,13 +38,13 @@ response-length r f w =
     rw length-packet (simp (length-append, length-id_bytes, length-nonces r.nonces f.nonces) (omega arith))
 
 pub shares-length : (ss : List SignatureShare) → All ShareFits ss → length (joined (map share_bytes ss)) ≡ 36 * length ss + 4 * key_count ss
-unfolding joined key_count
+unfolding key_count
 shares-length [] f = refl
 shares-length (s ∷ ss) f = rw (length-append, length-share_bytes s f.0, shares-length ss f.1) (omega arith)
 
 -- offsets and counts of a message within the limits fit
 pub addressable : (m : Message) → Fits m → within m ≡ true → Addressable m
-unfolding encode header parts within joined encode_response response_parts
+unfolding encode header parts within encode_response response_parts
 addressable (nonce_request r) f w =
     let l : length r.message ≤ 256 = leb-true _ 256 w in
     (rw length-packet (simp length-append (omega (arith, f.root.size, root-length r.signature_type))), omega arith)

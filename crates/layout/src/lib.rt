@@ -37,14 +37,14 @@ pub const SCALAR_LENGTH: usize = 32;
 pub const SHARE_LENGTH: usize = 36;
 
 // A signer's number and a key's number are both u32; no lookup takes the other kind.
-#[derive(Clone, Copy)]
+#[derive(Clone, Copy, PartialEq, Eq, Debug)]
 pub struct SignerId(pub u32);
 
-#[derive(Clone, Copy)]
+#[derive(Clone, Copy, PartialEq, Eq, Debug)]
 pub struct KeyId(pub u32);
 
 // net.rs: SignatureType. The root of TaprootRoot lies beside it.
-#[derive(Clone, Copy)]
+#[derive(Clone, Copy, PartialEq, Eq, Debug)]
 pub enum SignatureType {
     Frost,
     Schnorr,
@@ -53,7 +53,7 @@ pub enum SignatureType {
 }
 
 // state_machine/mod.rs: the results of a finished signing round (OperationResult), without the signature that the host keeps.
-#[derive(Clone, Copy)]
+#[derive(Clone, Copy, PartialEq, Eq, Debug)]
 pub enum ResultKind {
     Sign,
     SignSchnorr,
@@ -61,7 +61,7 @@ pub enum ResultKind {
 }
 
 // The three numbers of a signing round.
-#[derive(Clone, Copy)]
+#[derive(Clone, Copy, PartialEq, Eq, Debug)]
 pub struct Ids {
     pub dkg_id: u64,
     pub sign_id: u64,
@@ -69,7 +69,7 @@ pub struct Ids {
 }
 
 // The first 32 bytes of a packet.
-#[derive(Clone, Copy)]
+#[derive(Clone, Copy, PartialEq, Eq, Debug)]
 pub struct Header {
     pub kind: u8,
     pub signature_type: u8,
@@ -91,22 +91,20 @@ pub fn type_number(t: SignatureType) -> u8
 }
 
 // The type that a number at most 3 stands for.
+#[tactic(auto, unfolding(crate::specs::Types::type_of))]
 pub fn signature_type(n: u8) -> SignatureType
     ensures { result ≡ type_of n }
 {
-    if n == 0 {
-        return SignatureType::Frost;
+    match n {
+        0 => SignatureType::Frost,
+        1 => SignatureType::Schnorr,
+        2 => SignatureType::Taproot,
+        _ => SignatureType::TaprootRoot,
     }
-    if n == 1 {
-        return SignatureType::Schnorr;
-    }
-    if n == 2 {
-        return SignatureType::Taproot;
-    }
-    SignatureType::TaprootRoot
 }
 
 // The bytes of a root: 32 for type 3, else none.
+#[tactic(auto, unfolding(crate::specs::Types::root_length))]
 pub fn root_length(n: u8) -> usize
     ensures { result ≡ root_length n }
 {
@@ -120,8 +118,7 @@ pub fn result_kind(t: SignatureType) -> ResultKind
     match t {
         SignatureType::Frost => ResultKind::Sign,
         SignatureType::Schnorr => ResultKind::SignSchnorr,
-        SignatureType::Taproot => ResultKind::SignTaproot,
-        SignatureType::TaprootRoot => ResultKind::SignTaproot,
+        SignatureType::Taproot | SignatureType::TaprootRoot => ResultKind::SignTaproot,
     }
 }
 

@@ -19,6 +19,7 @@ use Rattle.layout.proofs.Headed.{header-message_in}
 use Rattle.layout.proofs.Frame.{header_next, length-table, length-packet}
 use Rattle.layout.proofs.Written.{headers}
 use Rattle.layout.proofs.RoundTrip.{taken-laid, within_addressable, decode-encode}
+use Rattle.std.specs.Result.{result_unwrap_or}
 use Rattle.packet_in_hand.specs.InHand.{counted}
 use Rattle.library_reader.specs.Plain.{packet_of, place_in}
 use Rattle.library_reader.specs.Fields.{AtPlaces, Tells, NotTaken, PartTold}
@@ -94,7 +95,7 @@ module _ (s : List ℕ) (small : length s < 2 ^ 32) where
       → (number_at 4 (p + 8 * i) s ≡ at + length (joined (take i qs)))
       × ((number_at 4 (p + 8 * i + 4) s ≡ length (get_or qs i []))
       × (take (length (get_or qs i [])) (drop (at + length (joined (take i qs))) s) ≡ get_or qs i []))
-  unfolding table joined
+  unfolding table
   table_at [] p at rest l t j i h = let z : ⊥ = omega arith in absurd z
   table_at (q ∷ qs) p at rest l t j zero h =
       let size : length s - at ≡ length q + length (joined qs) = sym (length-drop at s) ∙ ap length j ∙ length-append q (joined qs) in
@@ -121,7 +122,7 @@ module _ (s : List ℕ) (small : length s < 2 ^ 32) where
 pub part_told_law :
     (m : Message) → Fits m → within m ≡ true → (i : ℕ) → i < length (parts m)
     → PartTold (encode m) (32 + 8 * length (parts m) + length (joined (take i (parts m)))) (get_or (parts m) i [])
-    (place_in (encode m) (counted (decode (encode m))).pairs i)
+    (place_in (encode m) (result_unwrap_or (counted (decode (encode m))) 0) i)
 unfolding encode packet place_in counted
 part_told_law m f w i l =
     let s = encode m in
@@ -132,7 +133,7 @@ part_told_law m f w i l =
     let found =
     table_at s a.0 qs 32 at (joined qs) (omega (arith, length-packet (header m) qs)) d
     (part_next (8 * length qs) 32 s (table at qs) (joined qs) (length-table at qs) d) i l in
-    let pairs : (counted (decode s)).pairs ≡ length qs =
-    ap (λ (x : Decoded). (counted x).pairs) (decode-encode m f w) ∙ (headers m f a.1).pairs in
-    let y = lt-ltb i (counted (decode s)).pairs (rw pairs l) in
+    let pairs : result_unwrap_or (counted (decode s)) 0 ≡ length qs =
+    ap (λ (x : Decoded). result_unwrap_or (counted x) 0) (decode-encode m f w) ∙ (headers m f a.1).pairs in
+    let y = lt-ltb i (result_unwrap_or (counted (decode s)) 0) (rw pairs l) in
     rw y (record { at = found.0; size = found.1.0; bytes = rw (found.0, found.1.0) found.1.1 })

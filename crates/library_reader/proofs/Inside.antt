@@ -1,7 +1,7 @@
 -- The parts of a packet that is taken lie inside it.
 -- Assumes nothing.
 use Prim.Native.Nat.{ℕ, zero, suc, ◌+◌, ◌*◌, ◌≤◌, ◌<◌}
-use mathlib.Core.Path.{◌≡◌, refl, sym, ap, subst, ◌∙◌}
+use mathlib.Core.Path.{◌≡◌, refl, sym, ap, ◌∙◌}
 use mathlib.Core.Bool.{true}
 use mathlib.Core.List.{List, []}
 use native.Mathlib.Omega.{arith}
@@ -18,7 +18,7 @@ use Rattle.layout.proofs.Frame.{tiles-le}
 use Rattle.layout.proofs.Headed.{framed-tiles, laid_out-framed, header-message_in}
 use Rattle.layout.proofs.RoundTrip.{taken-laid}
 use Rattle.parts.specs.Parts.{part_in}
-use Rattle.packet_in_hand.specs.declared.counts.PairCount.{PairCount}
+use Rattle.std.specs.Result.{result_unwrap_or}
 use Rattle.packet_in_hand.specs.InHand.{counted}
 use Rattle.library_reader.specs.Plain.{place_in}
 
@@ -36,42 +36,42 @@ tiled_inside s p (suc n) at (suc i) t l =
     rw e at (tiled_inside s (p + 8) n (at + number_at 4 (p + 4) s) i (and_right (eqb (number_at 4 p s) at) _ t) (omega arith))
 
 pub part_inside :
-    (s : List ℕ) (i : ℕ) → i < (counted (decode s)).pairs → number_at 4 (32 + 8 * i) s + number_at 4 (32 + 8 * i + 4) s ≤ length s
+    (s : List ℕ) (i : ℕ) → i < result_unwrap_or (counted (decode s)) 0 → number_at 4 (32 + 8 * i) s + number_at 4 (32 + 8 * i + 4) s ≤ length s
 unfolding counted
 part_inside s i l = by (decode s) refl
   where
     by : (d : Decoded) → decode s ≡ d → number_at 4 (32 + 8 * i) s + number_at 4 (32 + 8 * i + 4) s ≤ length s
     by (refused n) e =
-        let none : (counted (decode s)).pairs ≡ 0 = ap (λ (d : Decoded). (counted d).pairs) e in
+        let none : result_unwrap_or (counted (decode s)) 0 ≡ 0 = ap (λ (d : Decoded). result_unwrap_or (counted d) 0) e in
         let z : ⊥ = omega arith in
         absurd z
     by (taken m) e =
         let laid = taken-laid s m e in
         let same : header m ≡ header_in s = ap header (sym laid.1) ∙ header-message_in s laid.0 in
-        let pairs : (counted (decode s)).pairs ≡ (header_in s).pairs =
-        ap (λ (d : Decoded). (counted d).pairs) e ∙ ap (λ (h : Header). h.pairs) same in
+        let pairs : result_unwrap_or (counted (decode s)) 0 ≡ (header_in s).pairs =
+        ap (λ (d : Decoded). result_unwrap_or (counted d) 0) e ∙ ap (λ (h : Header). h.pairs) same in
         tiled_inside s 32 (header_in s).pairs _ i (framed-tiles s (laid_out-framed s laid.0)) (omega (arith, l, pairs))
 
 -- a pair that is there, and one that is not
-module _ (s : List ℕ) (found : PairCount) (i : ℕ) (e : found ≡ counted (decode s)) where
+module _ (s : List ℕ) (pairs i : ℕ) (e : pairs ≡ result_unwrap_or (counted (decode s)) 0) where
   pub there :
-      (a n : ℕ) → i < found.pairs → a ≡ number_at 4 (32 + 8 * i) s → n ≡ number_at 4 (32 + 8 * i + 4) s
-      → (record { at = a; length = n } ≡ place_in s (counted (decode s)).pairs i)
-      × (take n (drop a s) ≡ part_in s (counted (decode s)).pairs i)
+      (a n : ℕ) → i < pairs → a ≡ number_at 4 (32 + 8 * i) s → n ≡ number_at 4 (32 + 8 * i + 4) s
+      → (record { at = a; length = n } ≡ place_in s (result_unwrap_or (counted (decode s)) 0) i)
+      × (take n (drop a s) ≡ part_in s (result_unwrap_or (counted (decode s)) 0) i)
       × (a + n ≤ length s)
   unfolding place_in part_in part_at
   there a n l p q =
-      let few : i < (counted (decode s)).pairs = subst (λ (c : PairCount). i < c.pairs) e l in
-      let y = lt-ltb i (counted (decode s)).pairs few in
+      let few : i < result_unwrap_or (counted (decode s)) 0 = rw e at l in
+      let y = lt-ltb i (result_unwrap_or (counted (decode s)) 0) few in
       (rw (y, p, q), rw (y, p, q), rw (p, q) (part_inside s i few))
 
   pub missing :
-      found.pairs ≤ i
-      → (record { at = 0; length = 0 } ≡ place_in s (counted (decode s)).pairs i)
-      × ([] ≡ part_in s (counted (decode s)).pairs i)
+      pairs ≤ i
+      → (record { at = 0; length = 0 } ≡ place_in s (result_unwrap_or (counted (decode s)) 0) i)
+      × ([] ≡ part_in s (result_unwrap_or (counted (decode s)) 0) i)
       × (0 ≤ length s)
   unfolding place_in part_in
   missing l =
-      let few : (counted (decode s)).pairs ≤ i = subst (λ (c : PairCount). c.pairs ≤ i) e l in
-      let n = le-ltb i (counted (decode s)).pairs few in
+      let few : result_unwrap_or (counted (decode s)) 0 ≤ i = rw e at l in
+      let n = le-ltb i (result_unwrap_or (counted (decode s)) 0) few in
       (rw n, rw n, omega arith)

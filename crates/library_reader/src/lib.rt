@@ -2,6 +2,7 @@
 #![tactic(auto)]
 
 ghost use Rattle.std.specs.Prelude.{◌≡◌, ◌+◌, ◌≤◌, length, take, drop};
+ghost use Rattle.std.specs.Result.{result_unwrap_or};
 ghost use Rattle.layout.specs.Decode.{decode};
 ghost use Rattle.parts.specs.Parts.{part_in};
 ghost use Rattle.packet_in_hand.specs.InHand.{counted};
@@ -9,12 +10,11 @@ ghost use Rattle.library_reader.specs.Plain.{plain_header, refused_packet, packe
 
 use layout::Header;
 use packet::reader;
-use packet::reader::Reading;
 use packet_in_hand::counts;
 
 // refusal: 8 or 9 where the packet is not taken, and then all else is 0.
 #[repr(C)]
-#[derive(Clone, Copy)]
+#[derive(Clone, Copy, Default)]
 pub struct RcPacket {
     pub refusal: u32,
     pub kind: u32,
@@ -38,7 +38,6 @@ pub struct RcPart {
 fn plain_header(h: Header) -> RcPacket
     ensures { result ≡ plain_header h }
 {
-    let ids = h.ids;
     RcPacket {
         refusal: 0,
         kind: h.kind as u32,
@@ -46,9 +45,9 @@ fn plain_header(h: Header) -> RcPacket
         pairs: h.pairs as u32,
         signer_id: h.signer_id,
         reserved: 0,
-        dkg_id: ids.dkg_id,
-        sign_id: ids.sign_id,
-        sign_iter_id: ids.sign_iter_id,
+        dkg_id: h.ids.dkg_id,
+        sign_id: h.ids.sign_id,
+        sign_iter_id: h.ids.sign_iter_id,
     }
 }
 
@@ -57,40 +56,35 @@ fn refused_packet(n: u8) -> RcPacket
 {
     RcPacket {
         refusal: n as u32,
-        kind: 0,
-        signature_type: 0,
-        pairs: 0,
-        signer_id: 0,
-        reserved: 0,
-        dkg_id: 0,
-        sign_id: 0,
-        sign_iter_id: 0,
+        ..RcPacket::default()
     }
 }
 
 // Questions 8 and 9, and the header.
+#[tactic(auto, using(crate::proofs::Plain::told_header, crate::proofs::Plain::told_refusal))]
 pub fn read_packet(s: &[u8]) -> RcPacket
     ensures { result ≡ packet_of (decode s.now) }
 {
-    let reading = reader::read(s);
-    match reading {
-        Reading::Packet(h) => plain_header(h),
-        Reading::Refused(n) => refused_packet(n),
+    match reader::read(s) {
+        Ok(h) => plain_header(h),
+        Err(n) => refused_packet(n),
     }
 }
 
 // Part i of a packet that is taken, inside it; nothing where there is none.
 pub fn packet_part(s: &[u8], i: u16) -> RcPart
-    ensures { (result ≡ place_in s.now (counted (decode s.now)).pairs i)
-        × (take result.length (drop result.at s.now) ≡ part_in s.now (counted (decode s.now)).pairs i)
+    ensures { (result ≡ place_in s.now (result_unwrap_or (counted (decode s.now)) 0) i)
+        × (take result.length (drop result.at s.now) ≡ part_in s.now (result_unwrap_or (counted (decode s.now)) 0) i)
         × (result.at + result.length ≤ length s.now) }
 {
-    let found = counts::count_pairs(s);
-    if i < found.pairs {
+    let pairs = counts::count_pairs(s).unwrap_or(0);
+    if i < pairs {
         let p = layout::HEADER_LENGTH + layout::PAIR_LENGTH * (i as usize);
-        let at = wire::u32_at(s, p) as u64;
-        let length = wire::u32_at(s, p + 4) as u64;
-        return RcPart { at, length };
+        RcPart {
+            at: wire::u32_at(s, p) as u64,
+            length: wire::u32_at(s, p + 4) as u64,
+        }
+    } else {
+        RcPart { at: 0, length: 0 }
     }
-    RcPart { at: 0, length: 0 }
 }

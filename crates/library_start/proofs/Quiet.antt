@@ -1,5 +1,6 @@
 -- A start that is refused with nothing changed, and the move question, give back the struct that they were given.
 -- Assumes nothing.
+use Rattle.std.specs.Prelude.{Err, Ok}
 use Prim.Native.Nat.{ℕ}
 use mathlib.Core.Path.{◌≡◌, refl}
 use mathlib.Core.Bool.{Bool, true, false, cond, ◌&&◌}
@@ -7,14 +8,12 @@ use mathlib.Core.List.{List}
 use lib.Dec.{leb}
 use lib.ListN.{length}
 use Rattle.layout.specs.Types.{type_of}
-use Rattle.state.specs.declared.answers.Passed.{Passed}
-use Rattle.state.specs.declared.answers.Passed.TheVariants.{Yes, No}
 use Rattle.state.specs.declared.fields.Coordinator.{Coordinator}
 use Rattle.state.specs.Turns.{Turn, unless, asked, error_turn}
+use Rattle.state.specs.Passed.{Passed}
 use Rattle.calls.specs.Calls.{asking_no_job, move_turn}
-use Rattle.starts.specs.declared.naming.SignId.{SignId}
 use Rattle.starts.specs.declared.naming.Start.{Start}
-use Rattle.starts.specs.Starts.{start_turn}
+use Rattle.starts.specs.Starts.{start_turn, SignId}
 use Rattle.state_bytes.specs.Description.{state_for}
 use Rattle.step_definition.specs.Refusals.{unchanging}
 use Rattle.coordinator_theorems.specs.Host.{start, turn_for}
@@ -38,8 +37,8 @@ started-quiet clock message n root id room s store =
 
 same_after : (p : Passed) (s : Coordinator) (store : List ℕ) (rest : Turn) → rest.after ≡ s → (unless p s store rest).after ≡ s
 unfolding unless
-same_after Yes s store rest e = e
-same_after (No n) s store rest e = refl
+same_after (Ok tt) s store rest e = e
+same_after (Err n) s store rest e = refl
 
 pub moved_quiet : (next n : ℕ) (root : List ℕ) (s : Coordinator) (store : List ℕ) → (moved_turn next n root s store).after ≡ s
 unfolding moved_turn move_turn

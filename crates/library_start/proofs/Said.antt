@@ -17,8 +17,7 @@ use Rattle.state_table.specs.States.{state_number}
 use Rattle.step_definition.specs.Ids as D
 use Rattle.state.specs.declared.fields.Coordinator.{Coordinator}
 use Rattle.state.specs.Turns.{error_turn}
-use Rattle.starts.specs.declared.naming.SignId.{SignId}
-use Rattle.starts.specs.Starts.{sign_id_of}
+use Rattle.starts.specs.Starts.{sign_id_of, SignId}
 use Rattle.form.proofs.Reading.{over_zeros}
 use Rattle.library_start.specs.Given.{last_type, last_state, root_given, given_sign_id, type_said, started_turn, moved_turn}
 

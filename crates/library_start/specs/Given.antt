@@ -1,13 +1,11 @@
 -- What the library's calls give where a host can say more than 01's calls take: a type above 3, a root of another length, a state above 14.
-use Rattle.std.specs.Prelude.{ℕ, Bool, cond, not, ◌&&◌, ◌||◌, List, eqb, leb, length, replicate}
+use Rattle.std.specs.Prelude.{ℕ, Bool, cond, not, ◌&&◌, ◌||◌, List, eqb, leb, length, replicate, None, Some}
 use Rattle.wire.specs.Bytes.{put}
 use Rattle.layout.specs.Types.{type_of, root_length}
 use Rattle.state.specs.declared.fields.Coordinator.{Coordinator}
 use Rattle.state.specs.Turns.{Turn, error_turn}
 use Rattle.calls.specs.Calls.{move_turn}
-use Rattle.starts.specs.declared.naming.SignId.{SignId}
-use Rattle.starts.specs.declared.naming.SignId.TheVariants.{Next, Given}
-use Rattle.starts.specs.Starts.{start_turn}
+use Rattle.starts.specs.Starts.{start_turn, SignId}
 use Rattle.state_bytes.specs.Description.{state_for}
 
 -- the last type, Taproot with a root, and the last state, SigShareGather, by number
@@ -23,7 +21,7 @@ root_given root = put (replicate (root_length last_type) 0) 0 root
 
 -- a sign id where one is given
 unfoldable pub given_sign_id : ℕ → ℕ → SignId
-given_sign_id given n = cond (eqb given 0) Next (Given n)
+given_sign_id given n = cond (eqb given 0) None (Some n)
 
 -- whether C says a type that 01 has: at most 3, and with the last one a root of 32 bytes; beside other types the root isn't looked at
 unfoldable pub type_said : ℕ → List ℕ → Bool

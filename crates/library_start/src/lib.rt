@@ -11,7 +11,7 @@ use interface::answers::RcAnswer;
 use interface::{kept, loads};
 use layout::ROOT_LENGTH;
 use loading::states;
-use starts::naming::{SignId, Start};
+use starts::naming::Start;
 use state::answers;
 use state::answers::Done;
 use state::fields::Coordinator;
@@ -30,14 +30,10 @@ fn root_given(root: &[u8]) -> [u8; ROOT_LENGTH]
     given
 }
 
-fn sign_id_of(given: u8, sign_id: u64) -> SignId
+fn sign_id_of(given: u8, sign_id: u64) -> Option<u64>
     ensures { result ≡ given_sign_id given sign_id }
 {
-    if given == 0 {
-        SignId::Next
-    } else {
-        SignId::Given(sign_id)
-    }
+    if given == 0 { None } else { Some(sign_id) }
 }
 
 // A type at most 3, and with the last one a root of 32 bytes.
@@ -62,7 +58,7 @@ fn start(
     message: &[u8],
     signature_type: u8,
     root: &[u8],
-    sign_id: SignId,
+    sign_id: Option<u64>,
 ) -> Done
     ensures { Did (started_turn clock message.now signature_type root.now sign_id
         (length out.old) s store.now)

@@ -4,7 +4,7 @@ use Prim.Native.Nat.{ℕ, suc, ◌≤◌}
 use mathlib.Core.Path.{◌≡◌, refl, sym, ap, subst, ◌∙◌}
 use mathlib.Core.Bool.{Bool, true, false, cond}
 use mathlib.Core.List.{List, [], ◌∷◌, ◌++◌, map}
-use mathlib.Core.Option.{Option, some, none}
+use Rattle.std.specs.Prelude.{Option, Some, None}
 use native.Mathlib.Omega.{arith}
 use borrow.Author.Tests.{le-leb}
 use lib.Dec.{leb}
@@ -35,7 +35,7 @@ use Rattle.library_theorems.proofs.Unsaved.{uncommissioned_turn}
 use Rattle.library_theorems.proofs.Outright.{Outright, unsaid, short, long, outright_case, refused-turn, refused_saves}
 use Rattle.library_theorems.proofs.Formed.{loaded-formed}
 
-said-long : (k : LibraryCall) {o : Option ℕ} → Outright k o → o ≡ none → (is_said k.request ≡ true) × (state_length ≤ k.state)
+said-long : (k : LibraryCall) {o : Option ℕ} → Outright k o → o ≡ None → (is_said k.request ≡ true) × (state_length ≤ k.state)
 said-long k (unsaid e) is = let z : ◌≡◌ {A = ℕ} 0 1 = cc in let f : ⊥ = omega arith in absurd f
 said-long k (short said l) is = let z : ◌≡◌ {A = ℕ} 0 1 = cc in let f : ⊥ = omega arith in absurd f
 said-long k (long said l) is = (said, l)
@@ -74,7 +74,7 @@ module _ (k : LibraryCall) (b : Buffers) {answer : A.Answer} {b' : Buffers} (m :
   lent_length = length-take-le k.state b.state m.lends_state
 
   -- refused outright: the number, and every byte as it was
-  pub outright_kept : (n : ℕ) → outright k ≡ some n → (answer ≡ A.refusing A.error n []) × (b' ≡ b)
+  pub outright_kept : (n : ℕ) → outright k ≡ Some n → (answer ≡ A.refusing A.error n []) × (b' ≡ b)
   outright_kept n is =
       let refused = refused-turn k lent stored lent_length (length m.out) n (outright_case k) is in
       let as_saved = refused_saves k lent stored lent_length n (outright_case k) is in
@@ -83,7 +83,7 @@ module _ (k : LibraryCall) (b : Buffers) {answer : A.Answer} {b' : Buffers} (m :
       let store : b'.store ≡ b.store = m.store_beyond ∙ rw (rw refused at m.gave.stored) (take-append-drop k.lent b.store) in
       (m.answered ∙ (rw refused at m.gave.answered), λ i. record { state = state i; store = store i })
 
-  module _ (is : outright k ≡ none) where
+  module _ (is : outright k ≡ None) where
     abbrev fits : (is_said k.request ≡ true) × (state_length ≤ k.state)
     fits = said-long k (outright_case k) is
 
@@ -113,8 +113,8 @@ module _ (k : LibraryCall) (b : Buffers) {answer : A.Answer} {b' : Buffers} (m :
         by true e y s = m.gave.loads (rw (e, le-leb state_length (length lent) lent_long)) lent_long
         by false e true s = m.gave.loads (rw (e, s)) lent_long
         by false e false s =
-            let none : loaded lent ≡ unsaved = unsaved-loaded lent s in
-            let uncommissioned = ap (λ s. s.commissioned) none ∙ unsaved-uncommissioned in
+            let None : loaded lent ≡ unsaved = unsaved-loaded lent s in
+            let uncommissioned = ap (λ s. s.commissioned) None ∙ unsaved-uncommissioned in
             let stays = uncommissioned_turn k.clock (is_yes k.verdict) k.room (loaded lent) stored uncommissioned (request_of k.request) e in
             let left : m.state' ≡ lent = rw (e, s) at m.gave.kept in
             ap loaded left ∙ sym (ap (λ (t : Turn). t.after) (on_loaded ∙ stays))
@@ -150,16 +150,16 @@ module _ (k : LibraryCall) (b : Buffers) {answer : A.Answer} {b' : Buffers} (m :
   library-answer = by (outright k) refl
     where
       by : (o : Option ℕ) → outright k ≡ o → answer ≡ given o (λ (n : ℕ). A.refusing A.error n []) (turn_of (host_call k) (counted b)).answer
-      by (some n) e = (outright_kept n e).0
-      by none e = taken_answer e
+      by (Some n) e = (outright_kept n e).0
+      by None e = taken_answer e
 
   pub library_step : counted b' ≡ host_step (as_host k) (counted b)
   unfolding as_host
   library_step = by (outright k) refl
     where
       by : (o : Option ℕ) → outright k ≡ o → counted b' ≡ host_step (given o (λ (n : ℕ). lending_nothing k) (host_call k)) (counted b)
-      by (some n) e = ap counted (outright_kept n e).1 ∙ sym (nothing_lent k (counted b))
-      by none e = taken_step e
+      by (Some n) e = ap counted (outright_kept n e).1 ∙ sym (nothing_lent k (counted b))
+      by None e = taken_step e
 
   -- what a host sees of the call, and that it can be made of what the bytes stand for
   pub library-sees :
@@ -171,8 +171,8 @@ module _ (k : LibraryCall) (b : Buffers) {answer : A.Answer} {b' : Buffers} (m :
           → seeing (given o (λ (n : ℕ). A.refusing A.error n []) (turn_of (host_call k) (counted b)).answer) (counted b')
           ≡ given o (λ (n : ℕ). seeing (A.refusing A.error n []) (counted b'))
           (seeing (turn_of (given o (λ (n : ℕ). lending_nothing k) (host_call k)) (counted b)).answer (counted b'))
-      by (some n) = refl
-      by none = refl
+      by (Some n) = refl
+      by None = refl
 
   -- the bytes written are those of the host's call: none where it is refused outright
   pub library_bytes : answer.bytes ≡ (turn_of (as_host k) (counted b)).answer.bytes
@@ -182,16 +182,16 @@ module _ (k : LibraryCall) (b : Buffers) {answer : A.Answer} {b' : Buffers} (m :
       by : (o : Option ℕ)
           → (given o (λ (n : ℕ). A.refusing A.error n []) (turn_of (host_call k) (counted b)).answer).bytes
           ≡ (turn_of (given o (λ (n : ℕ). lending_nothing k) (host_call k)) (counted b)).answer.bytes
-      by (some n) = sym (ap (λ (a : A.Answer). a.bytes) (nothing-answered k (counted b)))
-      by none = refl
+      by (Some n) = sym (ap (λ (a : A.Answer). a.bytes) (nothing-answered k (counted b)))
+      by None = refl
 
   pub library_makeable : Makeable (length b.store) (as_host k)
   unfolding as_host
   library_makeable = by (outright k)
     where
       by : (o : Option ℕ) → Makeable (length b.store) (given o (λ (n : ℕ). lending_nothing k) (host_call k))
-      by (some n) = record { given = tt; lent = omega arith }
-      by none = record { given = m.arrays; lent = m.lends_store }
+      by (Some n) = record { given = tt; lent = omega arith }
+      by None = record { given = m.arrays; lent = m.lends_store }
 
   pub store_length : length b'.store ≡ length b.store
   store_length =

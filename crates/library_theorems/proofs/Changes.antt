@@ -4,7 +4,7 @@ use Prim.Native.Nat.{ℕ, suc}
 use mathlib.Core.Path.{◌≡◌, refl, sym, ap, subst, ◌∙◌}
 use mathlib.Core.Bool.{true, false}
 use mathlib.Core.List.{List, [], ◌∷◌, map}
-use mathlib.Core.Option.{Option, some, none}
+use Rattle.std.specs.Prelude.{Option, Some, None}
 use lib.ListN.{length, get_or, take, drop}
 use Rattle.wire.specs.Bytes.{All}
 use Rattle.validity.specs.Keys.{member}
@@ -46,12 +46,12 @@ module _ (k : LibraryCall) (b : Buffers) {a : A.Answer} {c : Buffers} (m : Made 
       by : (o : Option ℕ) → outright k ≡ o
           → (viewed (counted c) ≡ after_refusal k.clock (suc n) (as_request (given o (λ (n : ℕ). lending_nothing k) (host_call k)).request) (viewed (counted b)))
           × (a.bytes ≡ [])
-      by (some r) is =
+      by (Some r) is =
           let kept = outright_kept k b m r is in (
             ap (λ (x : Buffers). viewed (counted x)) kept.1 ∙ sym (timeout-refused k.clock (suc n) (viewed (counted b))),
             ap (λ (x : A.Answer). x.bytes) kept.0,
           )
-      by none is =
+      by None is =
           let t = taken_answer k b m is in
           let same : as_host k ≡ host_call k = rw is in
           let told = host-refusal-changes (host_call k) (counted b) (loaded-formed b.state) (subst (Makeable (length b.store)) same (library_makeable k b m)) n
@@ -60,7 +60,7 @@ module _ (k : LibraryCall) (b : Buffers) {a : A.Answer} {c : Buffers} (m : Made 
 
   -- a refusal leaves of the struct that the bytes count as, and of the lent bytes of the store, exactly what `RefusalLeaves` says; the others stay
   pub library-refusal-leaves :
-      outright k ≡ none → (n : ℕ) → a.number ≡ suc n
+      outright k ≡ None → (n : ℕ) → a.number ≡ suc n
       → RefusalLeaves k.clock (loaded b.state) (take k.lent b.store) (request_of k.request) (suc n) (loaded c.state) (take k.lent c.store)
       × (drop k.lent c.store ≡ drop k.lent b.store)
   unfolding as_host
@@ -76,12 +76,12 @@ module _ (k : LibraryCall) (b : Buffers) {a : A.Answer} {c : Buffers} (m : Made 
   library_refusal_nothing n e quiet = by (outright k) refl
     where
       by : (o : Option ℕ) → outright k ≡ o → c ≡ b
-      by (some r) is = (outright_kept k b m r is).1
-      by none is = taken_kept k b m is (sym (ap (λ (x : A.Answer). x.number) (taken_answer k b m is)) ∙ e) quiet
+      by (Some r) is = (outright_kept k b m r is).1
+      by None is = taken_kept k b m is (sym (ap (λ (x : A.Answer). x.number) (taken_answer k b m is)) ∙ e) quiet
 
   -- only a share timeout adds to the malicious, only commissioning removes
   pub library-malicious-kept :
-      is_commission (as_request (as_host k).request) ≡ false → A.newly_malicious_in (turn_of (as_host k) (counted b)).events ≡ none
+      is_commission (as_request (as_host k).request) ≡ false → A.newly_malicious_in (turn_of (as_host k) (counted b)).events ≡ None
       → malicious_in (viewed (counted c)) ≡ malicious_in (viewed (counted b))
   library-malicious-kept nc e =
       ap (λ (x : Host). malicious_in (viewed x)) (library_step k b m)
@@ -107,7 +107,7 @@ begun c (opening k b d a m one) =
 -- whom a share timeout adds: the responders of the last share request from whom no share packet has come since
 pub library_only_the_silent :
     (c : Buffers) → LibraryBegins c → (ks : List LibraryCall) (seen : List Seen) (d : Buffers) → Ran ks c seen d
-    → (k : LibraryCall) (a : A.Answer) (e : Buffers) → Made k d a e → (ids : List ℕ) → A.newly_malicious_in (turn_of (as_host k) (counted d)).events ≡ some ids
+    → (k : LibraryCall) (a : A.Answer) (e : Buffers) → Made k d a e → (ids : List ℕ) → A.newly_malicious_in (turn_of (as_host k) (counted d)).events ≡ Some ids
     → Adds (watched (map as_call (map as_host ks)) (viewed (counted c)) unasked) ids (malicious_in (viewed (counted e))) (malicious_in (viewed (counted d)))
 library_only_the_silent c begins ks seen d r k a e m ids newly =
     let hs = map as_host ks in

@@ -3,7 +3,7 @@
 use Prim.Native.Nat.{ℕ}
 use mathlib.Core.Path.{◌≡◌, refl, sym, ap, ◌∙◌, subst}
 use mathlib.Core.List.{List, [], ◌∷◌, map}
-use mathlib.Core.Option.{Option, some, none}
+use Rattle.std.specs.Prelude.{Option, Some, None}
 use native.Mathlib.Omega.{arith}
 use lib.ListN.{length, get_or}
 use Rattle.wire.specs.Bytes.{All, Bytes}
@@ -29,8 +29,8 @@ unfolding as_host
 same_clock k = by (outright k)
   where
     by : (o : Option ℕ) → (given o (λ (n : ℕ). lending_nothing k) (host_call k)).clock ≡ k.clock
-    by (some n) = refl
-    by none = refl
+    by (Some n) = refl
+    by None = refl
 
 -- the calls of a list that follows a call can be made of what the host held before it
 follows :
@@ -46,10 +46,10 @@ unfolding as_host
 wrote_answer k b {a} {c} m one = by (outright k) refl
   where
     by : (o : Option ℕ) → outright k ≡ o → a ≡ (turn_of (given o (λ (n : ℕ). lending_nothing k) (host_call k)) (counted b)).answer
-    by (some n) e =
+    by (Some n) e =
         let z : ◌≡◌ {A = ℕ} 0 1 = sym (ap (λ (x : A.Answer). get_or x.bytes 0 0) (outright_kept k b m n e).0) ∙ one in
         let f : ⊥ = omega arith in absurd f
-    by none e = taken_answer k b m e
+    by None e = taken_answer k b m e
 
 -- first half: two hosts whose calls wrote the same nonce request at the same clock reading, with the same four fields after, see the same in all
 -- that follows, call for call
@@ -80,15 +80,15 @@ first_seen (k ∷ ks) x = by (outright k) refl (first_seen ks (host_step (as_hos
     by : (o : Option ℕ) → outright k ≡ o
         → first_share_request_in (numbered_in ks (host_run (map as_host ks) (host_step (as_host k) x))) ≡ first_kind3 (map as_host ks) (host_step (as_host k) x)
         → first_share_request_in (numbered_in (k ∷ ks) (host_run (map as_host (k ∷ ks)) x)) ≡ first_kind3 (map as_host (k ∷ ks)) x
-    by (some n) e rest = rw (rest, e, nothing-answered k x)
-    by none e rest = rw (rest, e)
+    by (Some n) e rest = rw (rest, e, nothing-answered k x)
+    by None e rest = rw (rest, e)
 
 -- a: the answer that opened the round; first: the first share request after it; y: what is held between
 abbrev pub Next : HostCall → List HostCall → A.Answer → Option Written → Host → Type 0
 Next k ks a first y =
     (q : NonceRequest) × (a ≡ A.sending A.packet (encode (nonce_request q)))
     × (first ≡ named (first_named (opened_by (as_call k) q (seen y)) (empty (opened_by (as_call k) q (seen y))) (map as_call ks)))
-    × ((p : Place) → first_named (opened_by (as_call k) q (seen y)) (empty (opened_by (as_call k) q (seen y))) (map as_call ks) ≡ some p
+    × ((p : Place) → first_named (opened_by (as_call k) q (seen y)) (empty (opened_by (as_call k) q (seen y))) (map as_call ks) ≡ Some p
     → Authentic (seen y).standing q.ids p.request)
 
 pub library_next_share_request :
@@ -110,7 +110,7 @@ library_next_share_request k b c a m one ks plain told e r =
 -- "which is then recorded": up to the first share request the book's entries are the records that the bytes stand for
 pub library_log_is_records :
     (k : LibraryCall) (b c : Buffers) (a : A.Answer) → Made k b a c → get_or a.bytes 0 0 ≡ 1
-    → (ks : List LibraryCall) → HostPlain (map as_host ks) (counted c) → (told : List Seen) (e : Buffers) → Ran ks c told e → first_share_request_in told ≡ none
+    → (ks : List LibraryCall) → HostPlain (map as_host ks) (counted c) → (told : List Seen) (e : Buffers) → Ran ks c told e → first_share_request_in told ≡ None
     → (q : NonceRequest) × (a ≡ A.sending A.packet (encode (nonce_request q)))
     × RecordsLogged (viewed (counted e))
     (log_after (opened_by (as_call (as_host k)) q (seen (counted c))) (empty (opened_by (as_call (as_host k)) q (seen (counted c)))) (map as_call (map as_host ks)))
@@ -118,7 +118,7 @@ library_log_is_records k b c a m one ks plain told e r none_left =
     let s = library_step k b m in
     let t = wrote_answer k b m one in
     let hs = map as_host ks in
-    let first : first_kind3 hs (host_step (as_host k) (counted b)) ≡ none =
+    let first : first_kind3 hs (host_step (as_host k) (counted b)) ≡ None =
     ap (first_kind3 hs) (sym s) ∙ sym (ap first_share_request_in (library_run ks c told e r).0 ∙ first_seen ks (counted c)) ∙ none_left in
     let logged =
     host_log_is_records (as_host k) (counted b) (loaded-formed b.state) (library_makeable k b m)

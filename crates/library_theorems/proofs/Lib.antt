@@ -10,3 +10,4 @@ pub mod Responses
 pub mod Contracts
 pub mod Makes
 pub mod Zeros
+pub mod Numbers

@@ -4,7 +4,7 @@ use Prim.Native.Nat.{ℕ, ◌≤◌, ◌<◌}
 use mathlib.Core.Path.{◌≡◌, refl, ap, ◌∙◌}
 use mathlib.Core.Bool.{Bool, true, false, cond}
 use mathlib.Core.List.{List}
-use mathlib.Core.Option.{Option, some, none}
+use Rattle.std.specs.Prelude.{Option, Some, None}
 use native.Mathlib.Omega.{arith}
 use borrow.Author.Tests.{lt-leb, leb-true, leb-false}
 use lib.Dec.{leb}
@@ -22,15 +22,15 @@ use Rattle.library_theorems.proofs.Unsaved.{uncommissioned_turn}
 
 -- the three cases
 pub data Outright (k : LibraryCall) : Option ℕ → Type 0 where
-  unsaid : is_said k.request ≡ false → Outright k (some 8)
-  short : is_said k.request ≡ true → k.state < state_length → Outright k (some 4)
-  long : is_said k.request ≡ true → state_length ≤ k.state → Outright k none
+  unsaid : is_said k.request ≡ false → Outright k (Some 8)
+  short : is_said k.request ≡ true → k.state < state_length → Outright k (Some 4)
+  long : is_said k.request ≡ true → state_length ≤ k.state → Outright k None
 
 pub outright_case : (k : LibraryCall) → Outright k (outright k)
 unfolding outright
 outright_case k = by (is_said k.request) refl (leb state_length k.state) refl
   where
-    by : (s : Bool) → is_said k.request ≡ s → (l : Bool) → leb state_length k.state ≡ l → Outright k (cond s (cond l none (some 4)) (some 8))
+    by : (s : Bool) → is_said k.request ≡ s → (l : Bool) → leb state_length k.state ≡ l → Outright k (cond s (cond l None (Some 4)) (Some 8))
     by false e l f = unsaid e
     by true e false f = short e (leb-false state_length k.state f)
     by true e true f = long e (leb-true state_length k.state f)
@@ -65,11 +65,11 @@ module _ (k : LibraryCall) (state store : List ℕ) (lent : length state ≡ k.s
       by : (c : Bool) → commissions q ≡ c → library_turn q k.clock k.verdict room state store ≡ error_turn 4 (loaded state) store
       by true e = rw (said, e, lt-leb state_length (length state) (omega arith), none_loaded l)
       by false e =
-          let none : (loaded state).commissioned ≡ false = ap (λ s. s.commissioned) (none_loaded l) ∙ unsaved-uncommissioned in
-          rw (said, e) (uncommissioned_turn k.clock (is_yes k.verdict) room (loaded state) store none (request_of q) e)
+          let None : (loaded state).commissioned ≡ false = ap (λ s. s.commissioned) (none_loaded l) ∙ unsaved-uncommissioned in
+          rw (said, e) (uncommissioned_turn k.clock (is_yes k.verdict) room (loaded state) store None (request_of q) e)
 
   pub refused-turn :
-      (room n : ℕ) {o : Option ℕ} → Outright k o → o ≡ some n
+      (room n : ℕ) {o : Option ℕ} → Outright k o → o ≡ Some n
       → library_turn q k.clock k.verdict room state store ≡ error_turn n (loaded state) store
   unfolding library_turn
   refused-turn room n (unsaid e) is = let eight : 8 ≡ n = cc in rw (e, eight)
@@ -77,7 +77,7 @@ module _ (k : LibraryCall) (state store : List ℕ) (lent : length state ≡ k.s
   refused-turn room n (long said l) is = let z : ◌≡◌ {A = ℕ} 0 1 = cc in let f : ⊥ = omega arith in absurd f
 
   -- such a call saves where a save left the bytes, commissioning too
-  pub refused_saves : (n : ℕ) {o : Option ℕ} → Outright k o → o ≡ some n → saves q state ≡ is_saved state
+  pub refused_saves : (n : ℕ) {o : Option ℕ} → Outright k o → o ≡ Some n → saves q state ≡ is_saved state
   unfolding saves
   refused_saves n (unsaid e) is = rw (unsaid_other q e)
   refused_saves n (short said l) is = by (commissions q) refl

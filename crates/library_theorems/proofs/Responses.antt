@@ -20,6 +20,7 @@ use Rattle.layout.proofs.Headed.{header-message_in}
 use Rattle.layout.proofs.RoundTrip.{taken-laid}
 use Rattle.framing.specs.Writing.{Writing, written, answer, buffer}
 use Rattle.parts.specs.Parts.{part_in}
+use Rattle.std.specs.Result.{result_unwrap_or}
 use Rattle.packet_in_hand.specs.InHand.{counted}
 use Rattle.library_reader.specs.declared.RcPacket.{RcPacket}
 use Rattle.library_reader.specs.Plain.{plain_header, packet_of}
@@ -46,8 +47,8 @@ module _ (s : List ℕ) (m : Message) (e : decode s ≡ taken m) where
   part_is : (i : ℕ) → i < (header m).pairs → part_told s i ≡ part_at s (32 + 8 * i)
   unfolding part_in counted
   part_is i l =
-      let pairs : (counted (decode s)).pairs ≡ (header m).pairs = ap (λ (d : Decoded). (counted d).pairs) e in
-      rw (lt-ltb i (counted (decode s)).pairs (rw pairs l))
+      let pairs : (result_unwrap_or (counted (decode s)) 0) ≡ (header m).pairs = ap (λ (d : Decoded). result_unwrap_or (counted d) 0) e in
+      rw (lt-ltb i (result_unwrap_or (counted (decode s)) 0) (rw pairs l))
 
   parts_are : (i n : ℕ) → i + n ≤ (header m).pairs → parts_told s i n ≡ parts_from s (32 + 8 * i) n
   unfolding parts_told parts_from

@@ -1,7 +1,6 @@
 -- The library's calls as a host in C makes them on its bytes, one after the other: every call of the header, with any arguments and any
 -- lengths; and what they stand for.
-use Rattle.std.specs.Prelude.{ℕ, ◌≤◌, ◌≡◌, Bool, true, cond, ◌&&◌, List, [], ◌∷◌, ◌++◌, leb, eqb, length, get_or, take, drop}
-use Rattle.std.proofs.Math.Option.{Option, some, none}
+use Rattle.std.specs.Prelude.{Option, Some, None, ℕ, ◌≤◌, ◌≡◌, Bool, true, cond, ◌&&◌, List, [], ◌∷◌, ◌++◌, leb, eqb, length, get_or, take, drop}
 use Rattle.layout.specs.Types.{type_of}
 use Rattle.step_definition.specs.Lists.{given}
 use Rattle.step_definition.specs.Calls as A
@@ -136,7 +135,7 @@ Ran (k ∷ ks) b seen b' =
 -- What C can say and 01's calls can't is refused outright: a type above 3, a state above 14, with type 3 a root of another length than 32
 -- (8); a state buffer that is too short (4).
 unfoldable pub outright : LibraryCall → Option ℕ
-outright k = cond (is_said k.request) (cond (leb state_length k.state) none (some 4)) (some 8)
+outright k = cond (is_said k.request) (cond (leb state_length k.state) None (Some 4)) (Some 8)
 
 -- the host's call that it is; one that is refused outright is, to 01, a call that lends nothing: it is refused, changes nothing, enters
 -- nothing
@@ -160,13 +159,13 @@ numbered_in (k ∷ ks) (s ∷ seen) = numbered k s ∷ numbered_in ks seen
 
 -- the first answer of a run that has a packet of kind 3, by its place, with the bytes
 unfoldable pub first_share_request_in : List Seen → Option Written
-first_share_request_in [] = none
+first_share_request_in [] = None
 first_share_request_in (s ∷ rest) =
-    cond (eqb (get_or s.answer.bytes 0 0) 3) (some (record { call = 0; bytes = s.answer.bytes })) (later (first_share_request_in rest))
+    cond (eqb (get_or s.answer.bytes 0 0) 3) (Some (record { call = 0; bytes = s.answer.bytes })) (later (first_share_request_in rest))
 
 -- where a watch begins: at a commissioning, or at a call that writes a nonce request
 pub data LibraryBegins : Buffers → Type 0 where
   commissioning :
-      (k : LibraryCall) (b c : Buffers) (a : A.Answer) (g : RcConfig) → Made k b a c → k.request ≡ commission g → outright k ≡ none
+      (k : LibraryCall) (b c : Buffers) (a : A.Answer) (g : RcConfig) → Made k b a c → k.request ≡ commission g → outright k ≡ None
       → LibraryBegins c
   opening : (k : LibraryCall) (b c : Buffers) (a : A.Answer) → Made k b a c → get_or a.bytes 0 0 ≡ 1 → LibraryBegins c

@@ -3,6 +3,7 @@
 use Rattle.std.specs.Prelude.{ℕ, zero, suc, ◌^◌, ◌≤◌, ◌<◌, ◌≡◌, List, [], ◌∷◌, ◌++◌, map, length, drop}
 use Rattle.layout.specs.Decode.{ids_in, share_in, decode}
 use Rattle.parts.specs.Parts.{part_in}
+use Rattle.std.specs.Result.{result_unwrap_or}
 use Rattle.packet_in_hand.specs.InHand.{counted}
 use Rattle.library_reader.specs.declared.RcPacket.{RcPacket}
 use Rattle.library_reader.specs.Plain.{packet_of}
@@ -45,7 +46,7 @@ packet_told kind pairs h =
     }
 
 abbrev pub part_told : List ℕ → ℕ → List ℕ
-part_told s i = part_in s (counted (decode s)).pairs i
+part_told s i = part_in s (result_unwrap_or (counted (decode s)) 0) i
 
 -- the n parts from part i on
 unfoldable pub parts_told : List ℕ → ℕ → ℕ → List (List ℕ)

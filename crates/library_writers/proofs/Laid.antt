@@ -126,7 +126,7 @@ module _ (h : RcHead) (message s : List ℕ) (room : ℕ) where
     responses-laid :
         (qs : List RcResponse) → every (response_holds (length source)) (map response_of qs) ≡ true
         → map encode_response (map (response_at source) (map response_of qs)) ≡ map (response_laid source) qs
-    unfolding every response_of place_of response_laid bytes_at
+    unfolding response_of place_of response_laid bytes_at
     responses-laid [] e = refl
     responses-laid (q ∷ qs) e =
         let held = response_held (length source) (response_of q) (and_left _ _ e) in
@@ -161,7 +161,7 @@ module _ (h : RcHead) (message s : List ℕ) (room : ℕ) where
     all-shares-laid :
         (qs : List RcJobPlace) → every (job_holds (length source)) (map job_place_of qs) ≡ true
         → map share_bytes (shares_of source (map job_place_of qs)) ≡ all_shares source qs
-    unfolding every shares_of shares_at_place all_shares job_place_of place_of key_counts share_keys_of
+    unfolding shares_of shares_at_place all_shares job_place_of place_of key_counts share_keys_of
     all-shares-laid [] e = refl
     all-shares-laid (q ∷ qs) e =
         let p = job_place_of q in

@@ -3,3 +3,4 @@
 pub mod Plain
 pub mod ReadBack
 pub mod Laid
+pub mod Each

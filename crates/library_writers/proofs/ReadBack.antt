@@ -5,7 +5,7 @@ use mathlib.Core.Path.{◌≡◌, refl, ap}
 use mathlib.Core.Bool.{true}
 use mathlib.Core.List.{List}
 use lib.ListN.{length}
-use Rattle.layout.specs.Messages.{Message, nonce_request, signature_share_request}
+use Rattle.layout.specs.Messages.{nonce_request, signature_share_request}
 use Rattle.layout.specs.Types.{type_number, type_of}
 use Rattle.layout.specs.Encode.{header_of, header}
 use Rattle.layout.specs.Fits.{Fits}

@@ -2,7 +2,7 @@
 use Rattle.std.specs.Prelude.{ℕ, ◌≡◌}
 use Rattle.layout.specs.declared.Header.{Header}
 use Rattle.layout.specs.Messages.{Message}
-use Rattle.layout.specs.Encode.{header, encode, dkg_ids}
+use Rattle.layout.specs.Encode.{header, encode}
 use Rattle.layout.specs.Decode.{decode, taken}
 use Rattle.responses.specs.declared.lists.ResponseHead.{ResponseHead}
 use Rattle.library_writers.specs.declared.given.RcHead.{RcHead}

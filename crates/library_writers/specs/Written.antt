@@ -1,13 +1,11 @@
 -- What a writer answers, as plain numbers.
-use Rattle.std.specs.Prelude.{ℕ, ◌≡◌, cond, List, ltb}
-use Rattle.framing.specs.declared.Written.{Written}
-use Rattle.framing.specs.declared.Written.TheVariants.{Bytes, Refused}
-use Rattle.framing.specs.Writing.{Writing, refused, answer, buffer}
+use Rattle.std.specs.Prelude.{Err, Ok, ℕ, ◌≡◌, cond, List, ltb}
+use Rattle.framing.specs.Writing.{Writing, refused, answer, buffer, Written}
 use Rattle.library_writers.specs.declared.written.RcWritten.{RcWritten}
 
 abbrev pub plain : Written → RcWritten
-plain (Bytes n) = record { refusal = 0; reserved = 0; length = n }
-plain (Refused n) = record { refusal = n; reserved = 0; length = 0 }
+plain (Ok n) = record { refusal = 0; reserved = 0; length = n }
+plain (Err n) = record { refusal = n; reserved = 0; length = 0 }
 
 -- a type that there is not, before anything else
 unfoldable pub typed : ℕ → Writing → Writing

@@ -103,192 +103,173 @@ pub struct RcJobPlaces {
     pub count: u64,
 }
 
-pub fn head(h: RcHead) -> RequestHead
-    ensures { result ≡ head_of h }
-{
-    let root = h.root;
-    let signature_type = layout::signature_type(h.signature_type);
-    let ids = Ids {
-        dkg_id: h.dkg_id,
-        sign_id: h.sign_id,
-        sign_iter_id: h.sign_iter_id,
-    };
-    RequestHead {
-        ids,
-        signature_type,
-        root,
+impl From<RcHead> for RequestHead {
+    ghost from_gives = { λ h r. r ≡ head_of h };
+
+    #[tactic(auto, unfolding(crate::specs::Given::head_of))]
+    fn from(h: RcHead) -> RequestHead {
+        // An array's field goes into a literal by a variable: the borrow checker covers no shorter form.
+        let root = h.root;
+        RequestHead {
+            ids: Ids {
+                dkg_id: h.dkg_id,
+                sign_id: h.sign_id,
+                sign_iter_id: h.sign_iter_id,
+            },
+            signature_type: layout::signature_type(h.signature_type),
+            root,
+        }
     }
 }
 
-pub fn response_head(given: RcResponseHead) -> ResponseHead
-    ensures { result ≡ response_head_of given }
-{
-    let ids = Ids {
-        dkg_id: given.dkg_id,
-        sign_id: given.sign_id,
-        sign_iter_id: given.sign_iter_id,
-    };
-    ResponseHead {
-        ids,
-        signer_id: SignerId(given.signer_id),
+impl From<RcResponseHead> for ResponseHead {
+    ghost from_gives = { λ given r. r ≡ response_head_of given };
+
+    #[tactic(auto, unfolding(crate::specs::Given::response_head_of))]
+    fn from(given: RcResponseHead) -> ResponseHead {
+        ResponseHead {
+            ids: Ids {
+                dkg_id: given.dkg_id,
+                sign_id: given.sign_id,
+                sign_iter_id: given.sign_iter_id,
+            },
+            signer_id: SignerId(given.signer_id),
+        }
     }
 }
 
-fn signer_ids(given: [u32; SIGNER_LIMIT]) -> [SignerId; SIGNER_LIMIT]
+fn each_id(given: [u32; SIGNER_LIMIT]) -> [SignerId; SIGNER_LIMIT]
     ensures { result ≡ map signer_id_of given }
 {
-    let mut ids = [SignerId(0); SIGNER_LIMIT];
-    let mut i: usize = 0;
-    while i < SIGNER_LIMIT {
-        ids[i] = SignerId(given[i]);
-        i += 1;
-    }
-    ids
+    given.map(|n| SignerId(n))
 }
 
-pub fn signers(given: RcSignerIds) -> SignerIds
-    ensures { result ≡ signers_given given }
-{
-    let numbers = given.ids;
-    let ids = signer_ids(numbers);
-    SignerIds {
-        ids,
-        count: given.count as usize,
+impl From<RcSignerIds> for SignerIds {
+    ghost from_gives = { λ given r. r ≡ signers_given given };
+
+    #[tactic(auto, unfolding(crate::specs::Given::signers_given))]
+    fn from(given: RcSignerIds) -> SignerIds {
+        let ids = each_id(given.ids);
+        SignerIds {
+            ids,
+            count: given.count as usize,
+        }
+    }
+}
+
+impl From<RcArrival> for Arrival {
+    ghost from_gives = { λ a r. r ≡ arrival_given a };
+
+    #[tactic(auto, unfolding(crate::specs::Given::arrival_given))]
+    fn from(a: RcArrival) -> Arrival {
+        Arrival {
+            signer_id: SignerId(a.signer_id),
+            clock: a.clock,
+        }
     }
 }
 
 fn each_arrival(given: [RcArrival; SIGNER_LIMIT]) -> [Arrival; SIGNER_LIMIT]
     ensures { result ≡ map arrival_given given }
 {
-    let none = Arrival {
-        signer_id: SignerId(0),
-        clock: 0,
-    };
-    let mut all = [none; SIGNER_LIMIT];
-    let mut i: usize = 0;
-    while i < SIGNER_LIMIT {
-        let a = given[i];
-        all[i] = Arrival {
-            signer_id: SignerId(a.signer_id),
-            clock: a.clock,
-        };
-        i += 1;
-    }
-    all
+    given.map(|a| Arrival::from(a))
 }
 
-pub fn arrivals(given: RcArrivals) -> Arrivals
-    ensures { result ≡ arrivals_given given }
-{
-    let each = given.arrivals;
-    let all = each_arrival(each);
-    Arrivals {
-        arrivals: all,
-        count: given.count as usize,
+impl From<RcArrivals> for Arrivals {
+    ghost from_gives = { λ given r. r ≡ arrivals_given given };
+
+    #[tactic(auto, unfolding(crate::specs::Given::arrivals_given))]
+    fn from(given: RcArrivals) -> Arrivals {
+        let arrivals = each_arrival(given.arrivals);
+        Arrivals {
+            arrivals,
+            count: given.count as usize,
+        }
     }
 }
 
-fn place(p: RcPlace) -> Place
-    ensures { result ≡ place_of p }
-{
-    Place {
-        at: p.at as usize,
-        count: p.count as usize,
+impl From<RcPlace> for Place {
+    ghost from_gives = { λ p r. r ≡ place_of p };
+
+    #[tactic(auto, unfolding(crate::specs::Given::place_of))]
+    fn from(p: RcPlace) -> Place {
+        Place {
+            at: p.at as usize,
+            count: p.count as usize,
+        }
     }
 }
 
-fn response(p: RcResponse) -> ResponsePlace
-    ensures { result ≡ response_of p }
-{
-    let in_message = p.message;
-    let in_key_ids = p.key_ids;
-    let in_nonces = p.nonces;
-    let message = place(in_message);
-    let key_ids = place(in_key_ids);
-    let nonces = place(in_nonces);
-    let ids = Ids {
-        dkg_id: p.dkg_id,
-        sign_id: p.sign_id,
-        sign_iter_id: p.sign_iter_id,
-    };
-    ResponsePlace {
-        ids,
-        signer_id: SignerId(p.signer_id),
-        message,
-        key_ids,
-        nonces,
+impl From<RcResponse> for ResponsePlace {
+    ghost from_gives = { λ p r. r ≡ response_of p };
+
+    #[tactic(auto, unfolding(crate::specs::Given::response_of))]
+    fn from(p: RcResponse) -> ResponsePlace {
+        ResponsePlace {
+            ids: Ids {
+                dkg_id: p.dkg_id,
+                sign_id: p.sign_id,
+                sign_iter_id: p.sign_iter_id,
+            },
+            signer_id: SignerId(p.signer_id),
+            message: Place::from(p.message),
+            key_ids: Place::from(p.key_ids),
+            nonces: Place::from(p.nonces),
+        }
     }
 }
 
-fn response_places(given: [RcResponse; SIGNER_LIMIT]) -> [ResponsePlace; SIGNER_LIMIT]
+fn each_response(given: [RcResponse; SIGNER_LIMIT]) -> [ResponsePlace; SIGNER_LIMIT]
     ensures { result ≡ map response_of given }
 {
-    let first = given[0];
-    let e = response(first);
-    let mut all = [e; SIGNER_LIMIT];
-    let mut i: usize = 0;
-    while i < SIGNER_LIMIT {
-        let p = given[i];
-        let e = response(p);
-        all[i] = e;
-        i += 1;
-    }
-    all
+    given.map(|p| ResponsePlace::from(p))
 }
 
-pub fn responses(given: RcResponses) -> ResponsePlaces
-    ensures { result ≡ responses_of given }
-{
-    let each = given.places;
-    let places = response_places(each);
-    ResponsePlaces {
-        places,
-        count: given.count as usize,
+impl From<RcResponses> for ResponsePlaces {
+    ghost from_gives = { λ given r. r ≡ responses_of given };
+
+    #[tactic(auto, unfolding(crate::specs::Given::responses_of))]
+    fn from(given: RcResponses) -> ResponsePlaces {
+        let places = each_response(given.places);
+        ResponsePlaces {
+            places,
+            count: given.count as usize,
+        }
     }
 }
 
-fn job_place(p: RcJobPlace) -> JobPlace
-    ensures { result ≡ job_place_of p }
-{
-    let in_key_ids = p.key_ids;
-    let in_nonces = p.nonces;
-    let in_shares = p.shares;
-    let share_key_counts = p.share_key_counts;
-    let key_ids = place(in_key_ids);
-    let nonces = place(in_nonces);
-    let shares = place(in_shares);
-    JobPlace {
-        key_ids,
-        nonces,
-        shares,
-        share_keys_at: p.share_keys_at as usize,
-        share_key_counts,
+impl From<RcJobPlace> for JobPlace {
+    ghost from_gives = { λ p r. r ≡ job_place_of p };
+
+    #[tactic(auto, unfolding(crate::specs::Given::job_place_of))]
+    fn from(p: RcJobPlace) -> JobPlace {
+        // By a variable, as the root above.
+        let share_key_counts = p.share_key_counts;
+        JobPlace {
+            key_ids: Place::from(p.key_ids),
+            nonces: Place::from(p.nonces),
+            shares: Place::from(p.shares),
+            share_keys_at: p.share_keys_at as usize,
+            share_key_counts,
+        }
     }
 }
 
-fn job_places_of(given: [RcJobPlace; SIGNER_LIMIT]) -> [JobPlace; SIGNER_LIMIT]
+fn each_job_place(given: [RcJobPlace; SIGNER_LIMIT]) -> [JobPlace; SIGNER_LIMIT]
     ensures { result ≡ map job_place_of given }
 {
-    let first = given[0];
-    let e = job_place(first);
-    let mut all = [e; SIGNER_LIMIT];
-    let mut i: usize = 0;
-    while i < SIGNER_LIMIT {
-        let p = given[i];
-        let e = job_place(p);
-        all[i] = e;
-        i += 1;
-    }
-    all
+    given.map(|p| JobPlace::from(p))
 }
 
-pub fn job_places(given: RcJobPlaces) -> JobPlaces
-    ensures { result ≡ job_places_of given }
-{
-    let each = given.places;
-    let places = job_places_of(each);
-    JobPlaces {
-        places,
-        count: given.count as usize,
+impl From<RcJobPlaces> for JobPlaces {
+    ghost from_gives = { λ given r. r ≡ job_places_of given };
+
+    #[tactic(auto, unfolding(crate::specs::Given::job_places_of))]
+    fn from(given: RcJobPlaces) -> JobPlaces {
+        let places = each_job_place(given.places);
+        JobPlaces {
+            places,
+            count: given.count as usize,
+        }
     }
 }

@@ -6,7 +6,7 @@ ghost use Rattle.library_writers.specs.Written.{WrotePlain};
 
 use crate::given::RcResponseHead;
 use crate::written::RcWritten;
-use crate::{given, written};
+use responses::lists::ResponseHead;
 use responses::{nonces, shares};
 
 pub fn write_nonce_response(
@@ -20,9 +20,8 @@ pub fn write_nonce_response(
         message.now key_ids.now nonces.now)
         out.old result out.new }
 {
-    let head = given::response_head(given);
-    let w = nonces::write_nonce_response(out, head, message, key_ids, nonces);
-    written::plain_of(w)
+    let head = ResponseHead::from(given);
+    RcWritten::from(nonces::write_nonce_response(out, head, message, key_ids, nonces))
 }
 
 pub fn write_signature_share_response(
@@ -37,7 +36,8 @@ pub fn write_signature_share_response(
         share_ids.now z_i.now key_counts.now key_ids.now)
         out.old result out.new }
 {
-    let head = given::response_head(given);
-    let w = shares::write_signature_share_response(out, head, share_ids, z_i, key_counts, key_ids);
-    written::plain_of(w)
+    let head = ResponseHead::from(given);
+    RcWritten::from(shares::write_signature_share_response(
+        out, head, share_ids, z_i, key_counts, key_ids,
+    ))
 }

@@ -9,10 +9,11 @@ ghost use Rattle.job.specs.Job.{write_job};
 ghost use Rattle.library_writers.specs.Given.{head_of, signers_given, arrivals_given, responses_of, job_places_of};
 ghost use Rattle.library_writers.specs.Written.{plain, typed, WrotePlain};
 
-use crate::given;
 use crate::given::{RcArrivals, RcHead, RcJobPlaces, RcResponses, RcSignerIds};
-use framing::Written;
+use body::RequestHead;
+use job::JobPlaces;
 use layout::SignerId;
+use pieces::places::{Arrivals, ResponsePlaces, SignerIds};
 use writer::{dkg, results};
 
 // refusal: 0, or 01's number, and then nothing was written.
@@ -27,20 +28,22 @@ pub struct RcWritten {
 // The last type, Taproot with a root, by number.
 const LAST_TYPE: u8 = 3;
 
-pub fn plain_of(w: Written) -> RcWritten
-    ensures { result ≡ plain w }
-{
-    match w {
-        Written::Bytes(n) => RcWritten {
-            refusal: 0,
-            reserved: 0,
-            length: n as u64,
-        },
-        Written::Refused(n) => RcWritten {
-            refusal: n as u32,
-            reserved: 0,
-            length: 0,
-        },
+impl From<Result<usize, u8>> for RcWritten {
+    ghost from_gives = { λ w r. r ≡ plain w };
+
+    fn from(w: Result<usize, u8>) -> RcWritten {
+        match w {
+            Ok(n) => RcWritten {
+                refusal: 0,
+                reserved: 0,
+                length: n as u64,
+            },
+            Err(n) => RcWritten {
+                refusal: n as u32,
+                reserved: 0,
+                length: 0,
+            },
+        }
     }
 }
 
@@ -50,11 +53,10 @@ pub fn write_nonce_request(out: &mut [u8], given: RcHead, message: &[u8]) -> RcW
         out.old result out.new }
 {
     if LAST_TYPE < given.signature_type {
-        return plain_of(Written::Refused(8));
+        return RcWritten::from(Err(8));
     }
-    let head = given::head(given);
-    let w = requests::write_nonce_request(out, head, message);
-    plain_of(w)
+    let head = RequestHead::from(given);
+    RcWritten::from(requests::write_nonce_request(out, head, message))
 }
 
 pub fn write_signature_share_request(
@@ -69,12 +71,11 @@ pub fn write_signature_share_request(
         out.old result out.new }
 {
     if LAST_TYPE < given.signature_type {
-        return plain_of(Written::Refused(8));
+        return RcWritten::from(Err(8));
     }
-    let head = given::head(given);
-    let ps = given::responses(places);
-    let w = requests::write_signature_share_request(out, head, message, source, ps);
-    plain_of(w)
+    let head = RequestHead::from(given);
+    let ps = ResponsePlaces::from(places);
+    RcWritten::from(requests::write_signature_share_request(out, head, message, source, ps))
 }
 
 pub fn write_job(
@@ -89,36 +90,32 @@ pub fn write_job(
         out.old result out.new }
 {
     if LAST_TYPE < given.signature_type {
-        return plain_of(Written::Refused(8));
+        return RcWritten::from(Err(8));
     }
-    let head = given::head(given);
-    let ps = given::job_places(places);
-    let w = job::write_job(out, head, message, source, ps);
-    plain_of(w)
+    let head = RequestHead::from(given);
+    let ps = JobPlaces::from(places);
+    RcWritten::from(job::write_job(out, head, message, source, ps))
 }
 
 pub fn write_dkg_begin(out: &mut [u8], dkg_id: u64) -> RcWritten
     ensures { WrotePlain (write_message (length out.old) (dkg_begin dkg_id))
         out.old result out.new }
 {
-    let w = dkg::write_dkg_begin(out, dkg_id);
-    plain_of(w)
+    RcWritten::from(dkg::write_dkg_begin(out, dkg_id))
 }
 
 pub fn write_dkg_signer(out: &mut [u8], signer_id: u32, dkg_id: u64) -> RcWritten
     ensures { WrotePlain (write_message (length out.old) (dkg_signer signer_id dkg_id))
         out.old result out.new }
 {
-    let w = dkg::write_dkg_signer(out, SignerId(signer_id), dkg_id);
-    plain_of(w)
+    RcWritten::from(dkg::write_dkg_signer(out, SignerId(signer_id), dkg_id))
 }
 
 pub fn write_dkg_coordinator(out: &mut [u8], dkg_id: u64) -> RcWritten
     ensures { WrotePlain (write_message (length out.old) (dkg_coordinator dkg_id))
         out.old result out.new }
 {
-    let w = dkg::write_dkg_coordinator(out, dkg_id);
-    plain_of(w)
+    RcWritten::from(dkg::write_dkg_coordinator(out, dkg_id))
 }
 
 pub fn write_nonce_timeout(
@@ -129,26 +126,21 @@ pub fn write_nonce_timeout(
     ensures { WrotePlain (write_nonce_timeout (length out.old) (signers_given waiters) (signers_given malicious))
         out.old result out.new }
 {
-    let w_ids = given::signers(waiters);
-    let m_ids = given::signers(malicious);
-    let w = results::write_nonce_timeout(out, w_ids, m_ids);
-    plain_of(w)
+    let waiting = SignerIds::from(waiters);
+    let struck = SignerIds::from(malicious);
+    RcWritten::from(results::write_nonce_timeout(out, waiting, struck))
 }
 
 pub fn write_insufficient_signers(out: &mut [u8], malicious: RcSignerIds) -> RcWritten
     ensures { WrotePlain (write_insufficient_signers (length out.old) (signers_given malicious))
         out.old result out.new }
 {
-    let ids = given::signers(malicious);
-    let w = results::write_insufficient_signers(out, ids);
-    plain_of(w)
+    RcWritten::from(results::write_insufficient_signers(out, SignerIds::from(malicious)))
 }
 
 pub fn write_arrivals(out: &mut [u8], given: RcArrivals) -> RcWritten
     ensures { WrotePlain (write_arrivals (length out.old) (arrivals_given given))
         out.old result out.new }
 {
-    let list = given::arrivals(given);
-    let w = results::write_arrivals(out, list);
-    plain_of(w)
+    RcWritten::from(results::write_arrivals(out, Arrivals::from(given)))
 }

@@ -1,9 +1,9 @@
 // A whole state.
-ghost use Rattle.std.specs.Prelude.{◌≤◌, ◌≡◌};
+ghost use Rattle.std.specs.Prelude.{◌<◌, ◌^◌, ◌+◌, ◌≡◌};
 ghost use Rattle.state_bytes.specs.Description.{config_form, state_for, position_form, message_form};
 ghost use Rattle.state_bytes.specs.Loaded.{state_at};
 
-use layout::{MESSAGE_LIMIT, ROOT_LENGTH, SignatureType};
+use layout::SignatureType;
 use loading_arrays::arrays;
 use loading_fields::fields;
 use state::fields::{Config, Coordinator, Message, Position, Shares};
@@ -16,23 +16,19 @@ use state_bytes::{
 use state_table::State;
 
 fn config_at(s: &[u8], at: usize) -> Config
-    requires { at ≤ 2048 }
+    requires { at + config_form.width < 2 ^ 64 }
     ensures { result ≡ config_form.load s.now at }
 {
-    let timeouts = fields::timeouts_at(s, at + TIMEOUTS);
-    let signers = arrays::signers_at(s, at + SIGNERS);
-    let count = wire::u64_at(s, at + SIGNER_COUNT) as usize;
-    let verify_packet_sigs = fields::flag_at(s, at + VERIFY_PACKET_SIGS);
     Config {
         num_signers: wire::u32_at(s, at),
         num_keys: wire::u32_at(s, at + NUM_KEYS),
         threshold: wire::u32_at(s, at + THRESHOLD),
         dkg_threshold: wire::u32_at(s, at + DKG_THRESHOLD),
         sign_threshold: wire::u32_at(s, at + SIGN_THRESHOLD),
-        timeouts,
-        signers,
-        count,
-        verify_packet_sigs,
+        timeouts: fields::timeouts_at(s, at + TIMEOUTS),
+        signers: arrays::each_at(s, at + SIGNERS),
+        count: wire::u64_at(s, at + SIGNER_COUNT) as usize,
+        verify_packet_sigs: fields::flag_at(s, at + VERIFY_PACKET_SIGS),
     }
 }
 
@@ -60,54 +56,43 @@ pub fn state_for(n: u8, t: SignatureType) -> State
 }
 
 fn position_at(s: &[u8], at: usize) -> Position
-    requires { at ≤ 4096 }
+    requires { at + position_form.width < 2 ^ 64 }
     ensures { result ≡ position_form.load s.now at }
 {
-    let n = wire::byte(s, at);
-    let t = layout::signature_type(wire::byte(s, at + SIGNATURE_TYPE));
-    let state = state_for(n, t);
-    let mut root = [0u8; ROOT_LENGTH];
-    wire::copy(&mut root, 0, wire::part(s, at + ROOT, ROOT_LENGTH));
-    Position { state, root }
+    let signature_type = layout::signature_type(wire::byte(s, at + SIGNATURE_TYPE));
+    Position {
+        state: state_for(wire::byte(s, at), signature_type),
+        root: fields::bytes_at(s, at + ROOT),
+    }
 }
 
 fn message_at(s: &[u8], at: usize) -> Message
-    requires { at ≤ 4096 }
+    requires { at + message_form.width < 2 ^ 64 }
     ensures { result ≡ message_form.load s.now at }
 {
-    let mut bytes = [0u8; MESSAGE_LIMIT];
-    wire::copy(&mut bytes, 0, wire::part(s, at, MESSAGE_LIMIT));
-    let len = wire::u64_at(s, at + MESSAGE_LEN) as usize;
-    Message { bytes, len }
+    Message {
+        bytes: fields::bytes_at(s, at),
+        len: wire::u64_at(s, at + MESSAGE_LEN) as usize,
+    }
 }
 
 // What the bytes say, field by field.
 pub fn state_at(s: &[u8]) -> Coordinator
     ensures { result ≡ state_at s.now }
 {
-    let commissioned = fields::flag_at(s, COMMISSIONED_START);
-    let config = config_at(s, CONFIG_START);
-    let ids = fields::ids_at(s, IDS_START);
-    let position = position_at(s, POSITION_START);
-    let message = message_at(s, MESSAGE_START);
-    let records = arrays::records_at(s, RECORDS_START);
-    let slots = arrays::shares_at(s, SHARES_START);
-    let shares = Shares { slots };
-    let marks = arrays::marks_at(s, MARKS_START);
-    let clocks = fields::clocks_at(s, CLOCKS_START);
-    let keys = fields::keys_at(s, KEYS_START);
-    let job = fields::flag_at(s, JOB_START);
     Coordinator {
-        commissioned,
-        config,
-        ids,
-        position,
-        message,
-        records,
-        shares,
-        marks,
-        clocks,
-        keys,
-        job,
+        commissioned: fields::flag_at(s, COMMISSIONED_START),
+        config: config_at(s, CONFIG_START),
+        ids: fields::ids_at(s, IDS_START),
+        position: position_at(s, POSITION_START),
+        message: message_at(s, MESSAGE_START),
+        records: arrays::records_at(s, RECORDS_START),
+        shares: Shares {
+            slots: arrays::each_at(s, SHARES_START),
+        },
+        marks: arrays::marks_at(s, MARKS_START),
+        clocks: fields::clocks_at(s, CLOCKS_START),
+        keys: fields::keys_at(s, KEYS_START),
+        job: fields::flag_at(s, JOB_START),
     }
 }

@@ -1,10 +1,10 @@
 // Arrays, read element by element, and the structs that hold them.
-ghost use Rattle.std.specs.Prelude.{◌≤◌, ◌≡◌};
-ghost use Rattle.layout.specs.Limits.{list_limit, signer_limit, record_limit};
-ghost use Rattle.form.specs.Form.{flag, each};
+ghost use Rattle.std.specs.Prelude.{◌<◌, ◌^◌, ◌+◌, ◌*◌, ◌≡◌};
+ghost use Rattle.layout.specs.Limits.{list_limit};
+ghost use Rattle.form.specs.Form.{Form, flag, each};
 ghost use Rattle.state_bytes.specs.Description.{key_form, signer_form, slot_form, row_form, records_form, share_form, marks_form};
 
-use layout::{KeyId, LIST_LIMIT, RECORD_LIMIT, SIGNER_LIMIT, SignerId};
+use layout::{KeyId, LIST_LIMIT, SignerId};
 use loading_fields::fields;
 use state::fields::{Marks, Records, ResponseSlot, ShareSlot, SignRoundInfo, SignerEntry};
 use state_bytes::{
@@ -13,157 +13,145 @@ use state_bytes::{
 };
 use validity::keys::KeyIds;
 
-// A key list's own bytes.
-fn key_ids_in(keys: &[u8]) -> [KeyId; LIST_LIMIT]
-    ensures { result ≡ (each list_limit key_form).load keys.now 0 }
+// A value that stands in an array: its form, how many bytes that takes, and what they say.
+pub trait Element: Sized {
+    ghost form: { Form Self };
+
+    fn width() -> usize
+        ensures { result ≡ form.width };
+
+    fn at(s: &[u8], at: usize) -> Self
+        requires { at + form.width < 2 ^ 64 }
+        ensures { result ≡ form.load s.now at };
+}
+
+// The elements, one after the other: the first stands in each place, and then the others are put in theirs. `array::from_fn` would say it
+// in a line, but fills a place for the whole array before, so that loading a state took twice as many instructions.
+pub fn each_at<T: Element + Copy, const N: usize>(s: &[u8], at: usize) -> [T; N]
+    requires some { 0 < N }
+    requires fits { at + T.form.width * N < 2 ^ 64 }
+    ensures { result ≡ (each N T.form).load s.now at }
 {
-    let mut ids = [KeyId(0); LIST_LIMIT];
-    let mut i: usize = 0;
-    while i < LIST_LIMIT {
-        ids[i] = KeyId(wire::u32_at(keys, KEY_BYTES * i));
-        i += 1;
+    let mut items = [T::at(s, at); N];
+    for i in 1..N {
+        items[i] = T::at(s, at + T::width() * i);
     }
-    ids
+    items
+}
+
+impl Element for bool {
+    ghost form = { flag };
+
+    fn width() -> usize {
+        ONE
+    }
+
+    fn at(s: &[u8], at: usize) -> bool {
+        fields::flag_at(s, at)
+    }
+}
+
+impl Element for KeyId {
+    ghost form = { key_form };
+
+    fn width() -> usize {
+        KEY_BYTES
+    }
+
+    fn at(s: &[u8], at: usize) -> KeyId {
+        KeyId(wire::u32_at(s, at))
+    }
 }
 
 // Where all of the list's bytes are there, the compiler knows how many, and asks no more.
 fn key_ids_at(s: &[u8], at: usize) -> [KeyId; LIST_LIMIT]
-    requires { at ≤ 8192 }
+    requires { at + (each list_limit key_form).width < 2 ^ 64 }
     ensures { result ≡ (each list_limit key_form).load s.now at }
 {
-    if s.len() < at + KEY_BYTES * LIST_LIMIT {
-        return key_ids_in(wire::part(s, at, KEY_BYTES * LIST_LIMIT));
+    match s.get(at..at + KEY_BYTES * LIST_LIMIT) {
+        Some(keys) => each_at(keys, 0),
+        None => each_at(s, at),
     }
-    key_ids_in(&s[at..at + KEY_BYTES * LIST_LIMIT])
 }
 
-fn signer_at(s: &[u8], at: usize) -> SignerEntry
-    requires { at ≤ 8000 }
-    ensures { result ≡ signer_form.load s.now at }
-{
-    let id = SignerId(wire::u32_at(s, at));
-    let has_keys = fields::flag_at(s, at + HAS_KEYS);
-    let ids = key_ids_at(s, at + KEY_IDS);
-    let count = wire::u64_at(s, at + KEY_COUNT) as usize;
-    let keys = KeyIds { ids, count };
-    SignerEntry { id, has_keys, keys }
-}
+impl Element for SignerEntry {
+    ghost form = { signer_form };
 
-pub fn signers_at(s: &[u8], at: usize) -> [SignerEntry; SIGNER_LIMIT]
-    requires { at ≤ 4096 }
-    ensures { result ≡ (each signer_limit signer_form).load s.now at }
-{
-    let first = signer_at(s, at);
-    let mut signers = [first; SIGNER_LIMIT];
-    let mut i: usize = 1;
-    while i < SIGNER_LIMIT {
-        let e = signer_at(s, at + SIGNER_BYTES * i);
-        signers[i] = e;
-        i += 1;
+    fn width() -> usize {
+        SIGNER_BYTES
     }
-    signers
-}
 
-fn slots_at(s: &[u8], at: usize) -> [ResponseSlot; SIGNER_LIMIT]
-    requires { at ≤ 7000 }
-    ensures { result ≡ (each signer_limit slot_form).load s.now at }
-{
-    let first = fields::slot_at(s, at);
-    let mut slots = [first; SIGNER_LIMIT];
-    let mut i: usize = 1;
-    while i < SIGNER_LIMIT {
-        let slot = fields::slot_at(s, at + SLOT_BYTES * i);
-        slots[i] = slot;
-        i += 1;
+    fn at(s: &[u8], at: usize) -> SignerEntry {
+        SignerEntry {
+            id: SignerId(wire::u32_at(s, at)),
+            has_keys: fields::flag_at(s, at + HAS_KEYS),
+            keys: KeyIds {
+                ids: key_ids_at(s, at + KEY_IDS),
+                count: wire::u64_at(s, at + KEY_COUNT) as usize,
+            },
+        }
     }
-    slots
 }
 
-fn row_at(s: &[u8], at: usize) -> SignRoundInfo
-    requires { at ≤ 6000 }
-    ensures { result ≡ row_form.load s.now at }
-{
-    let message = wire::u64_at(s, at) as usize;
-    let slots = slots_at(s, at + SLOTS);
-    SignRoundInfo { message, slots }
-}
+impl Element for ResponseSlot {
+    ghost form = { slot_form };
 
-fn rows_at(s: &[u8], at: usize) -> [SignRoundInfo; RECORD_LIMIT]
-    requires { at ≤ 4096 }
-    ensures { result ≡ (each record_limit row_form).load s.now at }
-{
-    let first = row_at(s, at);
-    let mut rows = [first; RECORD_LIMIT];
-    let mut i: usize = 1;
-    while i < RECORD_LIMIT {
-        let row = row_at(s, at + ROW_BYTES * i);
-        rows[i] = row;
-        i += 1;
+    fn width() -> usize {
+        SLOT_BYTES
     }
-    rows
+
+    fn at(s: &[u8], at: usize) -> ResponseSlot {
+        fields::slot_at(s, at)
+    }
+}
+
+impl Element for SignRoundInfo {
+    ghost form = { row_form };
+
+    fn width() -> usize {
+        ROW_BYTES
+    }
+
+    fn at(s: &[u8], at: usize) -> SignRoundInfo {
+        SignRoundInfo {
+            message: wire::u64_at(s, at) as usize,
+            slots: each_at(s, at + SLOTS),
+        }
+    }
+}
+
+impl Element for ShareSlot {
+    ghost form = { share_form };
+
+    fn width() -> usize {
+        SHARE_BYTES
+    }
+
+    fn at(s: &[u8], at: usize) -> ShareSlot {
+        ShareSlot {
+            held: fields::flag_at(s, at),
+            count: wire::u64_at(s, at + SHARE_COUNT) as usize,
+            key_counts: fields::bytes_at(s, at + KEY_COUNTS),
+        }
+    }
 }
 
 pub fn records_at(s: &[u8], at: usize) -> Records
-    requires { at ≤ 4096 }
+    requires { at + records_form.width < 2 ^ 64 }
     ensures { result ≡ records_form.load s.now at }
 {
-    let rows = rows_at(s, at);
-    let count = wire::u64_at(s, at + ROW_COUNT) as usize;
-    Records { rows, count }
-}
-
-fn share_slot_at(s: &[u8], at: usize) -> ShareSlot
-    requires { at ≤ 8000 }
-    ensures { result ≡ share_form.load s.now at }
-{
-    let held = fields::flag_at(s, at);
-    let count = wire::u64_at(s, at + SHARE_COUNT) as usize;
-    let mut key_counts = [0u8; LIST_LIMIT];
-    wire::copy(
-        &mut key_counts,
-        0,
-        wire::part(s, at + KEY_COUNTS, LIST_LIMIT),
-    );
-    ShareSlot {
-        held,
-        count,
-        key_counts,
+    Records {
+        rows: each_at(s, at),
+        count: wire::u64_at(s, at + ROW_COUNT) as usize,
     }
-}
-
-pub fn shares_at(s: &[u8], at: usize) -> [ShareSlot; SIGNER_LIMIT]
-    requires { at ≤ 4096 }
-    ensures { result ≡ (each signer_limit share_form).load s.now at }
-{
-    let first = share_slot_at(s, at);
-    let mut slots = [first; SIGNER_LIMIT];
-    let mut i: usize = 1;
-    while i < SIGNER_LIMIT {
-        let slot = share_slot_at(s, at + SHARE_BYTES * i);
-        slots[i] = slot;
-        i += 1;
-    }
-    slots
-}
-
-fn flags_at(s: &[u8], at: usize) -> [bool; SIGNER_LIMIT]
-    requires { at ≤ 8000 }
-    ensures { result ≡ (each signer_limit flag).load s.now at }
-{
-    let mut flags = [false; SIGNER_LIMIT];
-    let mut i: usize = 0;
-    while i < SIGNER_LIMIT {
-        flags[i] = fields::flag_at(s, at + ONE * i);
-        i += 1;
-    }
-    flags
 }
 
 pub fn marks_at(s: &[u8], at: usize) -> Marks
-    requires { at ≤ 4096 }
+    requires { at + marks_form.width < 2 ^ 64 }
     ensures { result ≡ marks_form.load s.now at }
 {
-    let ended = flags_at(s, at);
-    let malicious = flags_at(s, at + MALICIOUS);
-    Marks { ended, malicious }
+    Marks {
+        ended: each_at(s, at),
+        malicious: each_at(s, at + MALICIOUS),
+    }
 }

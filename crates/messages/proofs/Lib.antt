@@ -4,3 +4,4 @@ pub mod Sealed
 pub mod Taken
 pub mod Turns
 pub mod Refines
+pub mod Resting

@@ -1,5 +1,6 @@
 -- A message that is taken gives what the definition says of what the struct and the store stand for.
 -- Assumes nothing.
+use Rattle.std.specs.Prelude.{Err, Ok, Some}
 use Prim.Native.Nat.{ℕ}
 use mathlib.Core.Path.{◌≡◌, refl, subst}
 use mathlib.Core.Bool.{Bool, true, false, cond, not, ◌||◌, ◌&&◌}
@@ -16,7 +17,6 @@ use Rattle.layout.specs.Decode as L
 use Rattle.layout.proofs.Headed.{laid-out-cases, header-message_in}
 use Rattle.state_table.specs.declared.State.{State}
 use Rattle.state_table.specs.declared.State.TheVariants.{Idle, DkgPublicDistribute, DkgPublicGather, DkgPublicSharesDoneDistribute, DkgPublicSharesDoneGather, DkgPrivateDistribute, DkgPrivateGather, DkgPrivateSharesDoneDistribute, DkgPrivateSharesDoneGather, DkgEndDistribute, DkgEndGather, NonceRequest, NonceGather, SigShareRequest, SigShareGather}
-use Rattle.state_table.specs.declared.StateType.TheVariants.{Typed}
 use Rattle.state_table.specs.States.{type_in}
 use Rattle.step_definition.specs.Coordinator.{Coordinator as Defined}
 use Rattle.step_definition.specs.Coordinator.{commissioned}
@@ -27,7 +27,6 @@ use Rattle.step_definition.specs.Questions.{question13, question14}
 use Rattle.step_definition.specs.NonceGather.{gather_nonces}
 use Rattle.step_definition.specs.SigShareGather.{gather_shares}
 use Rattle.step_definition.specs.Step.{message_in, on_message}
-use Rattle.state.specs.declared.answers.Passed.TheVariants.{Yes, No}
 use Rattle.state.specs.declared.fields.Coordinator.{Coordinator}
 use Rattle.state.specs.View.{view, coordinator_of, standing_of, position_of, config_of}
 use Rattle.state.specs.Turns.{Turn, turn, unless, Refines}
@@ -44,8 +43,8 @@ use Rattle.messages.proofs.Taken.{gathering, shareable}
 -- the states that gather have a type
 abbrev TypeOf : Phase → State → Type 0
 TypeOf idling s = Unit {0}
-TypeOf (gathering_nonces t) s = type_in s ≡ Typed t
-TypeOf (gathering_shares t) s = type_in s ≡ Typed t
+TypeOf (gathering_nonces t) s = type_in s ≡ Some t
+TypeOf (gathering_shares t) s = type_in s ≡ Some t
 TypeOf resting s = Unit {0}
 
 type_of_law : (s : State) → TypeOf (phase_of s) s
@@ -68,7 +67,7 @@ type_of_law (SigShareGather t) = refl
 -- 13 and 14, by their answers
 sealed :
     (s : Coordinator) (store : List ℕ) (c : Defined) (rest : Turn) (o : A.Outcome) (verify held good : Bool) → view s store ≡ commissioned c → Refines rest o
-    → Refines (unless (cond verify (cond held (cond good Yes (No 14)) (No 13)) Yes) s store rest)
+    → Refines (unless (cond verify (cond held (cond good (Ok tt) (Err 14)) (Err 13)) (Ok tt)) s store rest)
     (cond (not verify || held) (cond (not verify || good) o (A.failing 14 [] c)) (A.failing 13 [] c))
 unfolding unless
 sealed s store c rest o false held good e r = r
@@ -88,7 +87,7 @@ module _ (clock : ℕ) (p : List ℕ) (s : Coordinator) (store : List ℕ) {h : 
   head k e = rw i.header e
 
   nonces-refine :
-      (t : SignatureType) → type_in s.position.state ≡ Typed t
+      (t : SignatureType) → type_in s.position.state ≡ Some t
       → Refines (in_nonces clock t p s store) (given (nonce_response_in (content_of (L.message_in p))) (λ (q : NonceResponse). gather_nonces clock t c.position.root q c) (A.quiet c))
   unfolding in_nonces response_in
   nonces-refine t typed =
@@ -105,7 +104,7 @@ module _ (clock : ℕ) (p : List ℕ) (s : Coordinator) (store : List ℕ) {h : 
       (λ k g d. rw k plainly)
 
   shares-refine :
-      (t : SignatureType) → type_in s.position.state ≡ Typed t
+      (t : SignatureType) → type_in s.position.state ≡ Some t
       → Refines (in_shares t p s store) (given (share_response_in (content_of (L.message_in p))) (λ (r : SignatureShareResponse). gather_shares t c.position.root r c) (A.quiet c))
   unfolding in_shares
   shares-refine t typed =

@@ -1,5 +1,6 @@
 -- What a message did, by its kind, the state and 13 and 14.
 -- Assumes nothing.
+use Rattle.std.specs.Prelude.{Err, Ok}
 use Prim.Native.Nat.{ℕ}
 use mathlib.Core.Path.{◌≡◌, refl}
 use mathlib.Core.Bool.{Bool}
@@ -11,10 +12,9 @@ use Rattle.layout.specs.declared.SignatureType.{SignatureType}
 use Rattle.layout.specs.LaidOut.{header_in, part_at}
 use Rattle.step_definition.specs.Phases as D
 use Rattle.state.specs.declared.answers.Done.{Done}
-use Rattle.state.specs.declared.answers.Passed.{Passed}
-use Rattle.state.specs.declared.answers.Passed.TheVariants.{Yes, No}
 use Rattle.state.specs.declared.fields.Coordinator.{Coordinator}
 use Rattle.state.specs.Turns.{Did, plain_answer, refused_answer}
+use Rattle.state.specs.Passed.{Passed}
 use Rattle.state.proofs.Turns.{plain_did, refused_did, passed_did}
 use Rattle.nonce_gather.specs.NonceGather.{gather_turn}
 use Rattle.share_gather.specs.ShareGather.{gather_shares_turn}
@@ -101,10 +101,10 @@ resting_did clock p s store {d} {out} e f = rw e (plain_did _ store out f)
 
 module _ (clock : ℕ) (verdict : Bool) (p : List ℕ) (s : Coordinator) (store : List ℕ) (h : Header) (head : h ≡ header_in p)
     (v : Passed) (asked : v ≡ verified_asked h verdict s) {d : Done} {out : List ℕ} where
-  pub unverified_did : (n : ℕ) → v ≡ No n → d ≡ record { answer = refused_answer n; after = s } → Did (message_turn clock verdict p s store) out d store out
+  pub unverified_did : (n : ℕ) → v ≡ Err n → d ≡ record { answer = refused_answer n; after = s } → Did (message_turn clock verdict p s store) out d store out
   unfolding message_turn
   unverified_did n e f = rw (← head, ← asked) (refused_did store out _ e f)
 
-  pub verified_did : (store' out' : List ℕ) → v ≡ Yes → Did (phase_turn clock p s store) out d store' out' → Did (message_turn clock verdict p s store) out d store' out'
+  pub verified_did : (store' out' : List ℕ) → v ≡ (Ok tt) → Did (phase_turn clock p s store) out d store' out' → Did (message_turn clock verdict p s store) out d store' out'
   unfolding message_turn
   verified_did store' out' e f = rw (← head, ← asked) (passed_did s store e f)

@@ -1,6 +1,6 @@
 // A message that is taken, by state: another coordinator's request in Idle, responses where they are gathered, nothing elsewhere.
+ghost use Rattle.std.specs.Prelude.{Some};
 ghost use Rattle.std.specs.Prelude.{◌≡◌, length};
-ghost use Rattle.state_table.specs.declared.StateType.TheVariants.{Typed};
 ghost use Rattle.state.specs.Turns.{Did};
 ghost use Rattle.messages.specs.Messages.{Incoming, in_nonces, in_shares, phase_turn, message_turn};
 
@@ -9,7 +9,7 @@ use crate::{phases, verified};
 use layout::{Header, SignatureType, SignerId};
 use nonce_gather::gather;
 use state::answers;
-use state::answers::{Done, Passed};
+use state::answers::Done;
 use state::fields::Coordinator;
 
 fn in_nonce_gather(
@@ -28,22 +28,17 @@ fn in_nonce_gather(
     if h.kind != 2 {
         return answers::quiet(s);
     }
-    let ids = h.ids;
-    let id = SignerId(h.signer_id);
-    let message = parts::message(packet);
-    let key_ids = parts::key_ids(packet);
-    let nonces = parts::nonces(packet);
     gather::gather_nonces(
         s,
         store,
         out,
         clock,
         signature_type,
-        ids,
-        id,
-        message,
-        key_ids,
-        nonces,
+        h.ids,
+        SignerId(h.signer_id),
+        parts::message(packet),
+        parts::key_ids(packet),
+        parts::nonces(packet),
     )
 }
 
@@ -77,10 +72,7 @@ fn by_phase(
     ensures { Did (phase_turn clock packet.now s store.old)
         out.old result store.new out.new }
 {
-    let position = s.position;
-    let state = position.state;
-    let phase = phases::phase_of(state);
-    match phase {
+    match phases::phase_of(s.position.state) {
         Phase::Idling => idle::idle(s, out, clock, packet, h),
         Phase::GatheringNonces(t) => in_nonce_gather(s, store, out, clock, t, packet, h),
         Phase::GatheringShares(t) => in_share_gather(s, store, out, t, packet, h),
@@ -104,7 +96,7 @@ pub fn on_message(
 {
     let passed = verified::verified(s, h, verdict);
     match passed {
-        Passed::No(n) => answers::refused(s, n),
-        Passed::Yes => by_phase(s, store, out, clock, packet, h),
+        Err(n) => answers::refused(s, n),
+        Ok(()) => by_phase(s, store, out, clock, packet, h),
     }
 }

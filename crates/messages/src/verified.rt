@@ -6,8 +6,6 @@ ghost use Rattle.messages.specs.Verified.{sender_known, verified_asked};
 
 use layout::{Header, SignerId};
 use records::admits;
-use records::admits::Slot;
-use state::answers::Passed;
 use state::fields::{Config, Coordinator};
 
 // Kinds that signers do not send name nobody.
@@ -20,28 +18,26 @@ fn is_sender_known(g: Config, h: Header) -> bool
     }
     let found = admits::slot_of(g, SignerId(h.signer_id));
     match found {
-        Slot::At(_) => true,
-        Slot::Nowhere => false,
+        Some(_) => true,
+        None => false,
     }
 }
 
-pub fn verified(s: Coordinator, h: Header, verdict: bool) -> Passed
+pub fn verified(s: Coordinator, h: Header, verdict: bool) -> Result<(), u32>
     requires { s.config.count ≤ signer_limit }
     ensures { result ≡ verified_asked h verdict s }
 {
-    let config = s.config;
-    if !config.verify_packet_sigs {
-        return Passed::Yes;
+    if !s.config.verify_packet_sigs {
+        return Ok(());
     }
-    let keys = s.keys;
-    if !keys.coordinator {
-        return Passed::No(13);
+    if !s.keys.coordinator {
+        return Err(13);
     }
-    if !is_sender_known(config, h) {
-        return Passed::No(14);
+    if !is_sender_known(s.config, h) {
+        return Err(14);
     }
     if !verdict {
-        return Passed::No(14);
+        return Err(14);
     }
-    Passed::Yes
+    Ok(())
 }

@@ -4,7 +4,7 @@ use Prim.Native.Nat.{ℕ, ◌+◌, ◌<◌}
 use mathlib.Core.Path.{◌≡◌, refl, ◌∙◌}
 use mathlib.Core.Bool.{Bool, true, false, cond}
 use mathlib.Core.List.{List, [], ◌∷◌}
-use mathlib.Core.Option.{some, none}
+use Rattle.std.specs.Prelude.{Some, None}
 use native.Mathlib.Omega.{arith}
 use borrow.Author.Tests.{ltb-true, ltb-false}
 use lib.Dec.{ltb}
@@ -39,17 +39,17 @@ use Rattle.share_request.specs.Asking.{Known}
 use Rattle.nonce_gather.specs.NonceGather.{NoncesGathering, ResponseRecorded}
 
 -- after a response was put in, its message has a record
-never : {A B : Type 0} {a : A} → some a ≡ none → B
+never : {A B : Type 0} {a : A} → Some a ≡ None → B
 never e = let z : ◌≡◌ {A = ℕ} 0 1 = cc in let f : ⊥ = omega arith in absurd f
 
-pub has_record : {A : Type 0} (clock : ℕ) (q : NonceResponse) (rs : List C.SignRoundInfo) → C.record_of q.message (C.add_response clock q rs) ≡ none → A
-unfolding find change
+pub has_record : {A : Type 0} (clock : ℕ) (q : NonceResponse) (rs : List C.SignRoundInfo) → C.record_of q.message (C.add_response clock q rs) ≡ None → A
+unfolding change
 has_record clock q [] e = never (rw (same_self q.message) at e)
 has_record {A} clock q (x ∷ xs) e = by (C.is_for q.message x) refl e (has_record clock q xs)
   where
     by : (b : Bool) → C.is_for q.message x ≡ b
-        → find (C.is_for q.message) (cond b (C.with_response clock q x ∷ xs) (x ∷ C.add_response clock q xs)) ≡ none
-        → (C.record_of q.message (C.add_response clock q xs) ≡ none → A) → A
+        → find (C.is_for q.message) (cond b (C.with_response clock q x ∷ xs) (x ∷ C.add_response clock q xs)) ≡ None
+        → (C.record_of q.message (C.add_response clock q xs) ≡ None → A) → A
     by true t e f = never (rw t at e)
     by false t e f = f (rw t at e)
 
@@ -139,7 +139,7 @@ module _ {s : Coordinator} {store m keys nonces : List ℕ} {room : ℕ} (g : No
             → record_place m after.records store' < after.records.count
         by true e = ltb-true _ _ e
         by false e =
-            let gone : C.record_of m (coordinator_of after store').round.message_nonces ≡ none =
+            let gone : C.record_of m (coordinator_of after store').round.message_nonces ≡ None =
             no_record after store' (added_shaped s shaped r i row_low clock ids m keys nonces) after_is_within m (ltb-false _ _ e) in
             has_record clock (response_for ids id m keys nonces) (coordinator_of s store).round.message_nonces (rw seen at gone)
 

@@ -1,5 +1,6 @@
 -- NonceGather on a response gives what the definition says of what the struct and the store stand for.
 -- Assumes nothing.
+use Rattle.std.specs.Prelude.{Some}
 use Prim.Native.Nat.{ℕ}
 use mathlib.Core.Path.{◌≡◌, refl, subst, ◌∙◌}
 use mathlib.Core.Bool.{Bool, true, false, cond}
@@ -11,7 +12,6 @@ use Rattle.layout.specs.declared.Ids.{Ids}
 use Rattle.layout.specs.declared.SignatureType.{SignatureType}
 use Rattle.layout.specs.Limits.{message_limit}
 use Rattle.layout.specs.Messages.{NonceResponse}
-use Rattle.state_table.specs.declared.StateType.TheVariants.{Typed}
 use Rattle.state_table.specs.States.{type_in}
 use Rattle.step_definition.specs.Coordinator.{Coordinator as Defined}
 use Rattle.step_definition.specs.Coordinator.{commissioned, with_message}
@@ -40,7 +40,7 @@ use Rattle.nonce_gather.proofs.Recording.{seen, recorded, added_shaped, placed}
 
 -- once a response to m is recorded
 module _ (clock : ℕ) (t : SignatureType) (q : NonceResponse) (s : Coordinator) (store : List ℕ) {room : ℕ} (shaped : Shaped s)
-    (long : length s.message.bytes ≡ message_limit) (b : s.commissioned ≡ true) (typed : type_in s.position.state ≡ Typed t)
+    (long : length s.message.bytes ≡ message_limit) (b : s.commissioned ≡ true) (typed : type_in s.position.state ≡ Some t)
     (k : ResponseRecorded s store q.message room) where
   abbrev m : List ℕ
   m = q.message
@@ -71,7 +71,7 @@ module _ (clock : ℕ) (t : SignatureType) (q : NonceResponse) (s : Coordinator)
       (record { config = held.config; message = held.message; records = held.records; shares = no_shares-within s.config.count })
 
   requested_seen : coordinator_of (shares_requested clock t m s) store ≡ request_shares clock t root (with_message m c)
-  unfolding shares_requested coordinator_of standing_of round_of position_of root_bytes reading
+  unfolding shares_requested coordinator_of standing_of round_of position_of root_bytes
   requested_seen = rw (typed, message_read m k.short s long, no_shares_law (slots_of s.config) store)
 
   request_same : request_for (shares_requested clock t m s) store r m t ≡ share_request_of t root (alike q c) (request_shares clock t root (with_message m c))
@@ -112,7 +112,7 @@ module _ (clock : ℕ) (t : SignatureType) (q : NonceResponse) (s : Coordinator)
       (λ y. record { answer = refl; events = refl; after = view_held s store b k.within }))
 
 module _ (clock : ℕ) (t : SignatureType) (ids : Ids) (id : ℕ) (m keys nonces : List ℕ) (s : Coordinator) (store : List ℕ) {room : ℕ} (shaped : Shaped s)
-    (long : length s.message.bytes ≡ message_limit) (b : s.commissioned ≡ true) (typed : type_in s.position.state ≡ Typed t)
+    (long : length s.message.bytes ≡ message_limit) (b : s.commissioned ≡ true) (typed : type_in s.position.state ≡ Some t)
     (g : NoncesGathering s store m keys nonces room) where
   abbrev q : NonceResponse
   q = response_for ids id m keys nonces

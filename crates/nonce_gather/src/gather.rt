@@ -17,11 +17,10 @@ use state::fields::Coordinator;
 fn replaced(s: Coordinator, message: &[u8]) -> Coordinator
     ensures { result ≡ with_current message.now s }
 {
-    let last = s.message;
-    let current = state::replaced::with_message(last, message);
-    let mut t = s;
-    t.message = current;
-    t
+    Coordinator {
+        message: state::replaced::with_message(s.message, message),
+        ..s
+    }
 }
 
 // A response of `id` has been recorded: do its message's keys suffice, and is the group key held (10)?
@@ -38,18 +37,14 @@ fn on_record(
     ensures { Did (record_turn clock signature_type id.0 message.now s store.now)
         out.old result store.now out.new }
 {
-    let held = s.records;
-    let r = rows::place(held, store, message);
-    let row = held.rows[r];
+    let r = rows::place(s.records, store, message);
     let config = s.config;
-    let received = key_counts::counts::received_keys(config, row);
+    let received = key_counts::counts::received_keys(config, s.records.rows[r]);
     if received < (config.sign_threshold as usize) {
         return answers::quiet(s);
     }
-    let keys = s.keys;
-    if !keys.aggregate {
-        let t = replaced(s, message);
-        return answers::refused(t, 10);
+    if !s.keys.aggregate {
+        return answers::refused(replaced(s, message), 10);
     }
     asking::request_sig_shares(s, store, out, clock, signature_type, r, id, message)
 }
@@ -74,10 +69,8 @@ fn put_on_record(
     ensures { Did (recorded_turn clock signature_type r i ids id.0 message.now key_ids.now
         nonces.now s store.old) out.old result store.new out.new }
 {
-    let held = s.records;
-    let added = rows::add(held, store, clock, r, i, ids, message, key_ids, nonces);
-    let mut t = s;
-    t.records = added;
+    let records = rows::add(s.records, store, clock, r, i, ids, message, key_ids, nonces);
+    let t = Coordinator { records, ..s };
     on_record(t, store, out, clock, signature_type, id, message)
 }
 
@@ -97,8 +90,7 @@ pub fn gather_nonces(
     ensures { Did (gather_turn clock signature_type ids id.0 message.now key_ids.now
         nonces.now s store.old) out.old result store.new out.new }
 {
-    let verdict = verdicts::decide(s, store, ids, id, message, key_ids, nonces);
-    match verdict {
+    match verdicts::decide(s, store, ids, id, message, key_ids, nonces) {
         Verdict::Wrong(number, got, expected) => answers::mismatched(
             s,
             Class::Error,

@@ -1,2 +1,2 @@
--- What the reader answers, and what it asks of each part.
+-- What the reader answers.
 pub mod Reading

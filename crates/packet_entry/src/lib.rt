@@ -35,8 +35,7 @@ fn unless_late(
     ensures { Did (processed_turn clock verdict packet.now s store.old)
         out.old result store.new out.new }
 {
-    let due = dues::timeout_due(s, clock);
-    match due {
+    match dues::timeout_due(s, clock) {
         Due::Nothing => states::on_message(s, store, out, clock, verdict, packet, h),
         Due::Nonces => timeouts::nonce_timeout(s, store, out),
         Due::Shares(t) => retry::share_timeout(s, store, out, clock, t),

@@ -5,41 +5,23 @@ ghost use Rattle.layout.specs.Decode.{decode};
 ghost use Rattle.packet_in_hand.specs.InHand.{counted};
 
 use packet::reader;
-use packet::reader::Reading;
 
 // The pair count of a packet that is taken; of one that is refused, 8 or 9.
-#[derive(Clone, Copy)]
-pub struct PairCount {
-    pub pairs: u16,
-    pub refusal: u8,
-}
-
-pub fn count_pairs(s: &[u8]) -> PairCount
+#[tactic(auto, using(crate::proofs::Counted::counted_taken, crate::proofs::Counted::counted_refused))]
+pub fn count_pairs(s: &[u8]) -> Result<u16, u8>
     ensures { result ≡ counted (decode s.now) }
 {
-    let reading = reader::read(s);
-    match reading {
-        Reading::Packet(h) => PairCount {
-            pairs: h.pairs,
-            refusal: 0,
-        },
-        Reading::Refused(n) => PairCount {
-            pairs: 0,
-            refusal: n,
-        },
-    }
+    Ok(reader::read(s)?.pairs)
 }
 
 pub fn kind(s: &[u8]) -> u8
     ensures { result ≡ (header_in s.now).kind }
 {
-    let h = frame::header(s);
-    h.kind
+    frame::header(s).kind
 }
 
 pub fn pairs(s: &[u8]) -> u16
     ensures { result ≡ (header_in s.now).pairs }
 {
-    let h = frame::header(s);
-    h.pairs
+    frame::header(s).pairs
 }

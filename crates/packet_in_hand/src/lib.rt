@@ -17,27 +17,13 @@ pub struct Packet<'a> {
     pub pairs: u16,
 }
 
-// What reading gives. An enum holds no reference, so the number stands beside the packet: 8 or 9 where the reader refuses it, then
-// without pairs, else 0.
-#[derive(Clone, Copy)]
-pub struct Opened<'a> {
-    pub packet: Packet<'a>,
-    pub refusal: u8,
-}
-
-// Questions 8 and 9, and the packet in hand.
-pub fn open<'a>(s: &'a [u8]) -> Opened<'a>
+// Questions 8 and 9, and the packet in hand; 8 or 9 where the reader refuses it.
+#[tactic(auto, unfolding(crate::specs::InHand::opened))]
+pub fn open<'a>(s: &'a [u8]) -> Result<Packet<'a>, u8>
     ensures { result ≡ opened s.entry }
 {
-    let found = counts::count_pairs(s);
-    let packet = Packet {
-        bytes: s,
-        pairs: found.pairs,
-    };
-    Opened {
-        packet,
-        refusal: found.refusal,
-    }
+    let pairs = counts::count_pairs(s)?;
+    Ok(Packet { bytes: s, pairs })
 }
 
 impl<'a> Packet<'a> {

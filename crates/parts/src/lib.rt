@@ -11,11 +11,7 @@ ghost use Rattle.parts.specs.Parts.{part_in, MessageOf, RootOf, KeyIdsOf, Nonces
 pub fn part(s: &[u8], pairs: u16, i: u16) -> &[u8]
     ensures { result.now ≡ part_in s.now pairs i }
 {
-    if i < pairs {
-        frame::part_at(s, i)
-    } else {
-        &s[..0]
-    }
+    if i < pairs { frame::part_at(s, i) } else { &[] }
 }
 
 // The message of a kind 1, 2 or 3 packet.

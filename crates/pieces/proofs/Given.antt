@@ -7,7 +7,7 @@ use mathlib.Core.List.{List, [], ◌∷◌, map}
 use native.Mathlib.Nat.{mul-mod_left}
 use native.Mathlib.Numerals.{add-one}
 use native.Mathlib.Omega.{arith}
-use lib.ListN.{length, get_or, take, drop, length-take, length-drop, length-map}
+use lib.ListN.{length, get_or, take, drop, length-take, length-drop}
 use lib.Seq.{drop-cons, get_or-take, length-take-le}
 use lib.Dec.{leb}
 use mir.Val.{Val}
@@ -47,11 +47,19 @@ pub drop-live :
 drop-live xs n i d h l =
     rw add-one (drop-cons (take n xs) i d (rw length-take (omega arith)) ∙ ap (λ x. x ∷ drop (suc i) (take n xs)) (get_or-take n xs i d h))
 
+-- the rest of a list from i on, and what is made of it, where the next gives y
+pub drop_next : {A : Type 0} (xs : List A) (i : ℕ) (d : A) → i < length xs → drop i xs ≡ get_or xs i d ∷ drop (i + 1) xs
+drop_next xs i d h = rw add-one (drop-cons xs i d h)
+
+pub map_next :
+    {A B : Type 0} (f : A → B) (xs : List A) (i : ℕ) (d : A) (y : B) → i < length xs → y ≡ f (get_or xs i d)
+    → map f (drop i xs) ≡ y ∷ map f (drop (i + 1) xs)
+map_next f xs i d y h e = rw (drop_next xs i d h, ← e)
+
 -- a test of each of them, where the next gives b
 pub every-live :
     {A : Type 0} (f : A → Bool) (xs : List A) (n i : ℕ) (d : A) (b : Bool) → i < n → n ≤ length xs → f (get_or xs i d) ≡ b
     → every f (drop i (take n xs)) ≡ b && every f (drop (i + 1) (take n xs))
-unfolding every
 every-live f xs n i d b h l e = rw (drop-live xs n i d h l, e)
 
 -- something made of each of them, where the next gives y
@@ -150,12 +158,8 @@ module _ (size : ℕ) (ps : ResponsePlaces) (h : responses_hold size ps ≡ true
   unfolding responses_hold
   places_hold = and_right (leb ps.count 10) _ h
 
-  pub place_held : length ps.places ≡ 10 → (i : ℕ) (d : ResponsePlace) → i < ps.count → response_holds size (get_or ps.places i d) ≡ true
-  unfolding places_of
-  place_held ten i d l = let few : ps.count ≤ 10 = places_few in live_at (response_holds size) ps.places ps.count i d l (omega arith) places_hold
-
   pub places_short : total (map response_length (places_of ps)) ≤ 14320
-  unfolding places_of every total
+  unfolding places_of total
   places_short =
       let few : ps.count ≤ 10 = places_few in
       let n : length (take ps.count ps.places) ≤ ps.count = rw length-take (omega arith) in
@@ -166,6 +170,19 @@ module _ (size : ℕ) (ps : ResponsePlaces) (h : responses_hold size ps ≡ true
       short (q ∷ qs) e =
           omega (arith, response-short size q (response_held size q (and_left _ _ e)), short qs (and_right (response_holds size q) _ e))
 
+  -- the one at i, as a walk over those that count takes it
+  pub live_held :
+      (live : List ResponsePlace) → live ≡ places_of ps → (i : ℕ) (d : ResponsePlace) → i < length live
+      → response_holds size (get_or live i d) ≡ true
+  live_held live e i d l = the_every_at (response_holds size) live i d (rw e places_hold) l
+
+  pub live_few : (live : List ResponsePlace) → live ≡ places_of ps → length live ≤ 10
+  unfolding places_of
+  live_few live e = rw (e, length-take) (omega (arith, places_few))
+
+  pub live_short : (live : List ResponsePlace) → live ≡ places_of ps → total (map response_length live) ≤ 14320
+  live_short live e = rw e places_short
+
 pub length-places_of : (ps : ResponsePlaces) → ps.count ≤ length ps.places → length (places_of ps) ≡ ps.count
 unfolding places_of
 length-places_of ps h = length-take-le ps.count ps.places h
@@ -174,7 +191,6 @@ length-places_of ps h = length-take-le ps.count ps.places h
 pub lengths_at :
     (source : List ℕ) → Bytes source → (qs : List ResponsePlace) → every (response_holds (length source)) qs ≡ true
     → map length (map encode_response (map (response_at source) qs)) ≡ map response_length qs
-unfolding every
 lengths_at source b [] e = refl
 lengths_at source b (q ∷ qs) e =
     rw (length_at source b q (response_held (length source) q (and_left _ _ e)), lengths_at source b qs (and_right (response_holds (length source) q) _ e))

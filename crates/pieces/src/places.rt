@@ -1,7 +1,8 @@
 // What a writer is given. A list is a place in the source that the caller lends (the coordinator's store): where it starts, and how
 // many entries it has. A place outside the source is refused with 9.
-ghost use Rattle.std.specs.Prelude.{◌≡◌};
-ghost use Rattle.pieces.specs.Places.{holds, response_holds, responses_hold};
+ghost use Rattle.std.specs.Prelude.{◌≡◌, ◌*◌, ◌≤◌, length, take};
+ghost use Rattle.wire.specs.Bytes.{every};
+ghost use Rattle.pieces.specs.Places.{bytes_at, holds, response_holds, places_of, responses_hold};
 
 use layout::{Ids, SignerId};
 
@@ -45,49 +46,83 @@ pub struct Arrivals {
     pub count: usize,
 }
 
-// Whether a list of at most `limit` entries of w bytes lies in a source of `size` bytes. No product is formed that could overflow.
-pub fn is_held(size: usize, w: usize, limit: usize, p: Place) -> bool
-    ensures { result ≡ holds size w limit p }
-{
-    if limit < p.count {
-        return false;
+impl Place {
+    // Whether a list of at most `limit` entries of w bytes lies in a source of `size` bytes. More bytes than a usize counts lie in none.
+    #[tactic(auto, unfolding(crate::specs::Places::holds))]
+    pub fn is_held(self, size: usize, w: usize, limit: usize) -> bool
+        ensures { result ≡ holds size w limit self }
+    {
+        self.count <= limit
+            && self.at <= size
+            && self
+                .count
+                .checked_mul(w)
+                .is_some_and(|n| n <= size - self.at)
     }
-    if size < p.at {
-        return false;
+
+    // The bytes of the list, whose entries have w bytes each.
+    #[tactic(auto, unfolding(crate::specs::Places::bytes_at))]
+    pub fn bytes(self, source: &[u8], w: usize) -> &[u8]
+        requires { self.count * w ≤ length source.now }
+        ensures { result.now ≡ bytes_at w self source.now }
+    {
+        wire::part(source, self.at, self.count * w)
     }
-    if w == 0 {
-        return true;
-    }
-    p.count <= (size - p.at) / w
 }
 
-fn is_response_held(size: usize, p: ResponsePlace) -> bool
-    ensures { result ≡ response_holds size p }
-{
-    if !is_held(size, 1, layout::MESSAGE_LIMIT, p.message) {
-        return false;
+impl ResponsePlace {
+    #[tactic(auto, unfolding(crate::specs::Places::response_holds))]
+    fn is_held(&self, size: usize) -> bool
+        ensures { result ≡ response_holds size self.now }
+    {
+        self.message.is_held(size, 1, layout::MESSAGE_LIMIT)
+            && self
+                .key_ids
+                .is_held(size, layout::ID_LENGTH, layout::LIST_LIMIT)
+            && self
+                .nonces
+                .is_held(size, layout::NONCE_LENGTH, layout::LIST_LIMIT)
     }
-    if !is_held(size, layout::ID_LENGTH, layout::LIST_LIMIT, p.key_ids) {
-        return false;
-    }
-    is_held(size, layout::NONCE_LENGTH, layout::LIST_LIMIT, p.nonces)
 }
 
-pub fn are_responses_held(size: usize, ps: ResponsePlaces) -> bool
-    ensures { result ≡ responses_hold size ps }
+fn are_each_held(places: &[ResponsePlace], size: usize) -> bool
+    ensures { result ≡ every (response_holds size) places.now }
 {
-    let count = ps.count;
-    if layout::SIGNER_LIMIT < count {
-        return false;
+    places.iter().all(|p| p.is_held(size))
+}
+
+impl ResponsePlaces {
+    // The places that count.
+    #[tactic(auto, unfolding(crate::specs::Places::places_of))]
+    pub fn live(&self) -> &[ResponsePlace]
+        ensures { result.now ≡ places_of self.now }
+    {
+        &self.places[..self.count.min(layout::SIGNER_LIMIT)]
     }
-    let places = ps.places;
-    let mut i: usize = 0;
-    while i < count {
-        let p = places[i];
-        if !is_response_held(size, p) {
-            return false;
-        }
-        i += 1;
+
+    // Whether they are few enough and the lists of each lie in a source of `size` bytes.
+    #[tactic(auto, unfolding(crate::specs::Places::responses_hold))]
+    pub fn are_held(&self, size: usize) -> bool
+        ensures { result ≡ responses_hold size self.now }
+    {
+        self.count <= layout::SIGNER_LIMIT && are_each_held(self.live(), size)
     }
-    true
+}
+
+impl SignerIds {
+    // The ids that count.
+    pub fn live(&self) -> &[SignerId]
+        ensures { result.now ≡ take self.now.count self.now.ids }
+    {
+        &self.ids[..self.count.min(layout::SIGNER_LIMIT)]
+    }
+}
+
+impl Arrivals {
+    // The arrivals that count.
+    pub fn live(&self) -> &[Arrival]
+        ensures { result.now ≡ take self.now.count self.now.arrivals }
+    {
+        &self.arrivals[..self.count.min(layout::SIGNER_LIMIT)]
+    }
 }

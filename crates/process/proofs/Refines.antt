@@ -1,5 +1,6 @@
 -- `process` and `process_message` give what the step says of what the struct and the store stand for.
 -- Assumes nothing.
+use Rattle.std.specs.Prelude.{Ok}
 use Prim.Native.Nat.{ℕ}
 use mathlib.Core.Path.{◌≡◌, refl}
 use mathlib.Core.Bool.{Bool, true, false, cond}
@@ -11,7 +12,6 @@ use Rattle.layout.specs.Decode.{taken, refused, decode, message_in, within}
 use Rattle.step_definition.specs.Calls as A
 use Rattle.step_definition.specs.Questions.{asks}
 use Rattle.step_definition.specs.Step.{on_packet, own, step_of, step}
-use Rattle.state.specs.declared.answers.Passed.TheVariants.{Yes}
 use Rattle.state.specs.declared.fields.Coordinator.{Coordinator}
 use Rattle.state.specs.Counts.{is_within_limits}
 use Rattle.state.specs.View.{view, coordinator_of}
@@ -27,7 +27,7 @@ use Rattle.process.proofs.Entering.{ready}
 module _ (clock : ℕ) (verdict : Bool) (p : List ℕ) (s : Coordinator) (store : List ℕ) (shaped : Shaped s)
     (bytes : length s.message.bytes ≡ message_limit) (root : length s.position.root ≡ 32) where
   packet-refines :
-      (entry : Entry) (room : ℕ) → asked asking_packet (length store) room s ≡ Yes → s.commissioned ≡ true → is_within_limits s ≡ true
+      (entry : Entry) (room : ℕ) → asked asking_packet (length store) room s ≡ (Ok tt) → s.commissioned ≡ true → is_within_limits s ≡ true
       → Refines (read_turn entry clock verdict p s store) (on_packet (entry_of entry) clock verdict (decode p) (coordinator_of s store))
   unfolding decode decoded_turn on_packet
   packet-refines entry room y b w = by (is_laid_out p) refl (within (message_in p)) refl

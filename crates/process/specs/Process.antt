@@ -6,7 +6,6 @@ use Rattle.state.specs.declared.answers.Asks.{Asks}
 use Rattle.state.specs.declared.fields.Coordinator.{Coordinator}
 use Rattle.state.specs.Counts.{is_within_limits}
 use Rattle.state.specs.Turns.{Turn, error_turn, asked, unless}
-use Rattle.packet_in_hand.specs.InHand.{counted}
 use Rattle.packet_entry.specs.declared.Entry.{Entry}
 use Rattle.packet_entry.specs.Entries.{entry_turn}
 
@@ -25,10 +24,6 @@ asking_packet = record { no_job = true; a_job = false; room = true }
 unfoldable pub receive_turn : Entry → ℕ → Bool → List ℕ → ℕ → Coordinator → List ℕ → Turn
 receive_turn entry clock verdict p room s store =
     unless (asked asking_packet (length store) room s) s store (read_turn entry clock verdict p s store)
-
--- the reader's number for these bytes, 0 where it takes them
-abbrev pub refusal_of : List ℕ → ℕ
-refusal_of p = (counted (decode p)).refusal
 
 -- what 4 and 7 have found
 pub record PacketReady (s : Coordinator) (store : List ℕ) (room : ℕ) : Type 0 where

@@ -1,6 +1,5 @@
 -- The timeout that fires, by state, clocks and the configuration's timeouts.
-use Rattle.std.specs.Prelude.{ℕ, Bool, cond, List}
-use Rattle.std.proofs.Math.Option.{Option, some, none}
+use Rattle.std.specs.Prelude.{Option, Some, None, ℕ, Bool, cond, List}
 use Rattle.step_definition.specs.Phases.{Phase, idling, gathering_nonces, gathering_shares, resting, phase_of}
 use Rattle.step_definition.specs.Questions.{fires}
 use Rattle.step_definition.specs.Timeouts.{nonce_timeout, share_timeout}
@@ -29,9 +28,9 @@ due_of clock s =
 
 -- what the definition answers then
 unfoldable pub due_outcome : ℕ → Due → Defined → Option A.Outcome
-due_outcome clock Nothing c = none
-due_outcome clock Nonces c = some (nonce_timeout c)
-due_outcome clock (Shares t) c = some (share_timeout clock t c.position.root c)
+due_outcome clock Nothing c = None
+due_outcome clock Nonces c = Some (nonce_timeout c)
+due_outcome clock (Shares t) c = Some (share_timeout clock t c.position.root c)
 
 -- "When it yields a packet, a result or an error, `process` drops the inbound packet": rest is what is done where none fires
 unfoldable pub due_turn : ℕ → Due → Coordinator → List ℕ → Turn → Turn

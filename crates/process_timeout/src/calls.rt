@@ -5,26 +5,21 @@ ghost use Rattle.process_timeout.specs.ProcessTimeout.{process_timeout_turn};
 
 use crate::dues;
 use state::answers;
-use state::answers::{Asks, Done, Passed};
+use state::answers::{Asks, Done};
 use state::fields::Coordinator;
 
 pub fn process_timeout(s: Coordinator, store: &[u8], out: &mut [u8], clock: u64) -> Done
     ensures { Did (process_timeout_turn clock (length out.old) s store.now)
         out.old result store.now out.new }
 {
-    let size = store.len();
-    let room = out.len();
     let asks = Asks {
         no_job: true,
         a_job: false,
         room: true,
     };
-    let passed = answers::before(s, size, room, asks);
+    let passed = answers::before(s, store.len(), out.len(), asks);
     match passed {
-        Passed::No(n) => answers::refused(s, n),
-        Passed::Yes => {
-            let due = dues::timeout_due(s, clock);
-            dues::answer_due(s, store, out, clock, due)
-        }
+        Err(n) => answers::refused(s, n),
+        Ok(()) => dues::answer_due(s, store, out, clock, dues::timeout_due(s, clock)),
     }
 }

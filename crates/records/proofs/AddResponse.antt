@@ -4,7 +4,7 @@ use Prim.Native.Nat.{ℕ, ◌+◌, ◌*◌, ◌/◌, ◌<◌, ◌≤◌}
 use mathlib.Core.Path.{◌≡◌, refl, sym, ap, ap₂, ◌∙◌}
 use mathlib.Core.Bool.{Bool, true, false, ◌&&◌}
 use mathlib.Core.List.{List, [], ◌∷◌}
-use mathlib.Core.Option.{some}
+use Rattle.std.specs.Prelude.{Some}
 use native.Mathlib.Omega.{arith}
 use borrow.Author.Tests.{ltb-true, ltb-false}
 use lib.Dec.{ltb}
@@ -86,7 +86,7 @@ module _ (es : List SignerSlot) (n : ℕ) (n≤10 : n ≤ signer_limit) (low : A
       (rows_same store store' (k + 1) rows (λ j h m. same j (omega arith) m) (omega arith) g.1)
 
 -- a response is its signer's
-pub held_id : (r : ℕ) (store : List ℕ) (k : ℕ) (slots : List ResponseSlot) (e : SignerSlot) (y : NonceResponse) → held_in r k store slots e ≡ some y → C.responder_id y ≡ e.id
+pub held_id : (r : ℕ) (store : List ℕ) (k : ℕ) (slots : List ResponseSlot) (e : SignerSlot) (y : NonceResponse) → held_in r k store slots e ≡ Some y → C.responder_id y ≡ e.id
 unfolding response_at place_of
 held_id r store k slots e y h = sym (ap C.responder_id (when_some (get_or slots e.slot no_slot).held (response_at store (place_of r k slots e)) y h))
 
@@ -135,7 +135,7 @@ module _ (es : List SignerSlot) (n : ℕ) (n≤10 : n ≤ signer_limit) (low : A
   new-response :
       (store : List ℕ) (k : ℕ) (slots : List ResponseSlot) → store_length ≤ length store → length slots ≡ signer_limit
       → take (k * 1) (drop (message_at r) store) ≡ m → k ≤ message_limit
-      → held_in r k (written store) (set slots i slot) (signer_slot id i) ≡ some q
+      → held_in r k (written store) (set slots i slot) (signer_slot id i) ≡ Some q
   unfolding response_at place_of bytes_at
   new-response store k slots big ten msg short =
       let s = sent in

@@ -3,11 +3,11 @@
 use Prim.Native.Nat.{ℕ, ◌+◌, ◌<◌, ◌≤◌}
 use mathlib.Core.Path.{◌≡◌, refl}
 use mathlib.Core.Bool.{Bool, cond}
-use mathlib.Core.List.{List}
-use lib.ListN.{length, get_or, take, drop}
+use mathlib.Core.List.{List, ◌∷◌}
+use native.Mathlib.Numerals.{add-one}
+use lib.ListN.{length, get_or, drop, drop_of_length-le}
+use lib.Seq.{drop-cons}
 use Rattle.wire.specs.Bytes.{put, are_same_bytes}
-use Rattle.pieces.proofs.Given.{drop-live}
-use Rattle.job.proofs.Held.{live_none}
 use Rattle.layout.specs.declared.Ids.{Ids}
 use Rattle.state.specs.declared.fields.SignRoundInfo.{SignRoundInfo}
 use Rattle.state.specs.declared.fields.Records.{Records}
@@ -24,12 +24,14 @@ unfolding added_records added_store
 add_done rs m keys nonces store clock r i ids o e₁ e₂ e₃ p q = rw (o, e₃, e₂, e₁, p, q) (refl, refl)
 
 -- the search, one record on
-module _ (m store : List ℕ) (rows : List SignRoundInfo) (n r : ℕ) where
-  pub place_next : {t : ℕ} (d : SignRoundInfo) (b : Bool) → r < n → n ≤ length rows → b ≡ are_same_bytes m (row_message r (get_or rows r d) store)
-      → record_from m store r (drop r (take n rows)) ≡ t → cond b r (record_from m store (r + 1) (drop (r + 1) (take n rows))) ≡ t
+module _ (m store : List ℕ) (rows : List SignRoundInfo) (r : ℕ) where
+  pub place_next : {t : ℕ} (d : SignRoundInfo) (b : Bool) → r < length rows → b ≡ are_same_bytes m (row_message r (get_or rows r d) store)
+      → record_from m store r (drop r rows) ≡ t → cond b r (record_from m store (r + 1) (drop (r + 1) rows)) ≡ t
   unfolding record_from
-  place_next d b h l e t = rw e (rw (drop-live rows n r d h l) at t)
+  place_next d b low e t =
+      let split : drop r rows ≡ get_or rows r d ∷ drop (r + 1) rows = rw (add-one r) (drop-cons rows r d low) in
+      rw e (rw split at t)
 
-  pub place_end : {t : ℕ} → n ≤ r → record_from m store r (drop r (take n rows)) ≡ t → r ≡ t
+  pub place_end : {t : ℕ} → length rows ≤ r → record_from m store r (drop r rows) ≡ t → r ≡ t
   unfolding record_from
-  place_end h t = rw (live_none rows n r h) at t
+  place_end h t = rw (drop_of_length-le rows {i = r} h) at t

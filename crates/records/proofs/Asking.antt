@@ -1,16 +1,17 @@
 -- What is asked of a response: the struct's answer is the step's, of what the struct stands for.
 -- Assumes nothing.
-use Prim.Native.Nat.{ℕ, ◌+◌, ◌<◌, ◌≤◌}
+use Prim.Native.Nat.{ℕ, suc, ◌+◌, ◌<◌}
 use mathlib.Core.Path.{◌≡◌, refl, sym, ap, ◌∙◌}
 use mathlib.Core.Bool.{Bool, true, false, cond, not, ◌&&◌}
-use mathlib.Core.List.{List, map}
-use mathlib.Core.Option.{Option, some, none}
+use mathlib.Core.List.{List, [], ◌∷◌, map}
+use Rattle.std.specs.Prelude.{Some, None, Option}
 use native.Mathlib.Omega.{arith}
-use lib.Dec.{eqb}
-use lib.ListN.{length, get_or, take, drop}
+use native.Mathlib.Nat.{add-zero}
+use borrow.Author.Tests.{lt-ltb, le-ltb, ltb-true, ltb-false}
+use lib.Dec.{eqb, ltb}
+use Rattle.std.specs.List.{position, position_or_len}
+use lib.ListN.{length, get_or}
 use Rattle.layout.specs.Messages.{NonceResponse}
-use Rattle.pieces.proofs.Given.{map-live}
-use Rattle.job.proofs.Held.{live_none}
 use Rattle.validity.specs.Keys.{member, same_set, listed}
 use Rattle.validity.specs.Nonces.{nonces_valid}
 use Rattle.step_definition.specs.Lists.{is_some}
@@ -24,49 +25,60 @@ use Rattle.state.specs.Slots.{signer_slot, slot_from, collect, when}
 use Rattle.state.specs.View.{entry_id, ids_of, slots_of, no_entry, flagged_in, signer_in, config_of, standing_of}
 use Rattle.state.proofs.SignerSlots.{ids_short, slots_rise, slot_in, slot_is, slots_out}
 use Rattle.state.proofs.Collect.{when_some, when_is, find_in, find_out, member_found}
-use Rattle.records.specs.declared.admits.Slot.TheVariants.{At, Nowhere}
-use Rattle.records.specs.Admits.{slot_answer, slot_of, admitted_at}
+use Rattle.records.specs.Admits.{slot_of, admitted_at}
 
--- the search, one signer on
-module _ (id : ℕ) (ss : List SignerEntry) (n i : ℕ) where
-  pub slot_next :
-      {t : Option ℕ} (d : SignerEntry) (b : Bool) → i < n → n ≤ length ss → b ≡ eqb id (get_or ss i d).id.0
-      → slot_from id i (map entry_id (drop i (take n ss))) ≡ t → cond b (some i) (slot_from id (i + 1) (map entry_id (drop (i + 1) (take n ss)))) ≡ t
+one_more : (n l : ℕ) → ltb (1 + n) (suc l) ≡ ltb n l
+one_more n l = by (ltb n l) refl
+  where
+    by : (b : Bool) → ltb n l ≡ b → ltb (1 + n) (suc l) ≡ b
+    by true q = lt-ltb (1 + n) (suc l) (omega (arith, ltb-true n l q))
+    by false q = le-ltb (1 + n) (suc l) (omega (arith, ltb-false n l q))
+
+-- the search by its test: the first place that passes, counted from k on
+module _ (id : ℕ) where
+  abbrev pub is_id : SignerEntry → Bool
+  is_id e = eqb id e.id.0
+
+  found_from : (k : ℕ) (es : List SignerEntry)
+      → slot_from id k (map entry_id es) ≡ cond (ltb (position_or_len is_id es) (length es)) (Some (k + position_or_len is_id es)) None
   unfolding slot_from
-  slot_next d b h l e t = rw e (rw (map-live entry_id ss n i d (get_or ss i d).id.0 h l refl) at t)
+  found_from k [] = refl
+  found_from k (e ∷ es) = by (eqb id e.id.0) (found_from (k + 1) es)
+    where
+      n : ℕ
+      n = position_or_len is_id es
 
-  pub slot_end : {t : Option ℕ} → n ≤ i → slot_from id i (map entry_id (drop i (take n ss))) ≡ t → none ≡ t
-  unfolding slot_from
-  slot_end h t = rw (live_none ss n i h) at t
+      by : (b : Bool) → slot_from id (k + 1) (map entry_id es) ≡ cond (ltb n (length es)) (Some (k + 1 + n)) None
+          → cond b (Some k) (slot_from id (k + 1) (map entry_id es))
+          ≡ cond (ltb (cond (not b) (1 + n) 0) (suc (length es))) (Some (k + cond (not b) (1 + n) 0)) None
+      by true h = rw (lt-ltb 0 (suc (length es)) (omega arith), add-zero k)
+      by false h =
+          let on : k + (1 + n) ≡ k + 1 + n = omega arith in
+          rw (on, one_more n (length es)) h
 
--- what the code's answer says of the search
-pub answer_none : (o : Option ℕ) → slot_answer o ≡ Nowhere → o ≡ none
-unfolding slot_answer
-answer_none none e = refl
-answer_none (some i) e = let z : ◌≡◌ {A = ℕ} 0 1 = cc in let f : ⊥ = omega arith in absurd f
+  pub found : (es : List SignerEntry) → slot_from id 0 (map entry_id es) ≡ position is_id es
+  found es =
+      let n = position_or_len is_id es in
+      let same : 0 + n ≡ n = omega arith in
+      found_from 0 es ∙ ap (λ (k : ℕ). cond (ltb n (length es)) (Some k) None) same
 
-pub answer_some : (o : Option ℕ) (i : ℕ) → slot_answer o ≡ At i → o ≡ some i
-unfolding slot_answer
-answer_some none i e = let z : ◌≡◌ {A = ℕ} 0 1 = cc in let f : ⊥ = omega arith in absurd f
-answer_some (some j) i e = let s : j ≡ i = cc in ap some s
-
-pub slot_low : (g : Config) (id i : ℕ) → slot_of id g ≡ some i → i < g.count
+pub slot_low : (g : Config) (id i : ℕ) → slot_of id g ≡ Some i → i < g.count
 slot_low g id i e = omega (arith, ids_short g, (slot_is id 0 (ids_of g) i e).1)
 
 -- the signers that stand for the configuration
 abbrev listing : Config → SignerSlot → Option SignerConfig
-listing g e = some (signer_in g.signers e)
+listing g e = Some (signer_in g.signers e)
 
-listing_id : (g : Config) (e : SignerSlot) (y : SignerConfig) → listing g e ≡ some y → config_signer_id y ≡ e.id
+listing_id : (g : Config) (e : SignerSlot) (y : SignerConfig) → listing g e ≡ Some y → config_signer_id y ≡ e.id
 unfolding signer_in
 listing_id g e y h = let q : signer_in g.signers e ≡ y = cc in sym (ap config_signer_id q)
 
-pub not_listed : (g : Config) (id : ℕ) → slot_of id g ≡ none → signer_of (config_of g) id ≡ none
+pub not_listed : (g : Config) (id : ℕ) → slot_of id g ≡ None → signer_of (config_of g) id ≡ None
 unfolding config_of
 not_listed g id n = find_out config_signer_id (listing g) (listing_id g) id (slots_of g) (slots_out id (ids_of g) n)
 
-module _ (g : Config) (id i : ℕ) (found : slot_of id g ≡ some i) where
-  pub listed_at : signer_of (config_of g) id ≡ some (signer_in g.signers (signer_slot id i))
+module _ (g : Config) (id i : ℕ) (found : slot_of id g ≡ Some i) where
+  pub listed_at : signer_of (config_of g) id ≡ Some (signer_in g.signers (signer_slot id i))
   unfolding config_of
   listed_at = find_in config_signer_id (listing g) (listing_id g) (signer_slot id i) (slots_of g) (slots_rise 0 (ids_of g)) (slot_in id 0 (ids_of g) i found)
 
@@ -84,7 +96,7 @@ chain true true set keys v m = refl
 chain true false set keys v m = refl
 chain false h set keys v m = refl
 
-pub admitted_at_law : (s : Coordinator) (i : ℕ) (q : NonceResponse) → slot_of q.signer_id s.config ≡ some i
+pub admitted_at_law : (s : Coordinator) (i : ℕ) (q : NonceResponse) → slot_of q.signer_id s.config ≡ Some i
     → admitted (config_of s.config) (standing_of s).dkg_end_messages (standing_of s).malicious_signer_ids q ≡ admitted_at s i q.key_ids q.nonces
 unfolding admitted admitted_at standing_of signer_in
 admitted_at_law s i q found =

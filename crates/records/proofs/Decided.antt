@@ -4,7 +4,7 @@ use Prim.Native.Nat.{ℕ, suc, ◌+◌, ◌<◌, ◌≤◌}
 use mathlib.Core.Path.{◌≡◌, refl, ap, ◌∙◌}
 use mathlib.Core.Bool.{Bool, true, false, cond, ◌||◌}
 use mathlib.Core.List.{List, [], ◌∷◌}
-use mathlib.Core.Option.{Option, some, none}
+use Rattle.std.specs.Prelude.{Option, Some, None}
 use native.Mathlib.Nat.{zero-add, add-zero}
 use native.Mathlib.Omega.{arith}
 use borrow.Author.Tests.{lt-ltb, ltb-true, ltb-false}
@@ -42,25 +42,25 @@ use Rattle.records.proofs.Asking.{admitted_at_law, not_listed}
 
 -- the record of a message, found by its place
 record_found : (es : List SignerSlot) (m store : List ℕ) (k : ℕ) (rows : List SignRoundInfo) → index m store k rows < length rows
-    → C.record_of m (rows_from es store k rows) ≡ some (row_of es store (k + index m store k rows) (get_or rows (index m store k rows) no_row))
-unfolding index find rows_from row_of row_message
+    → C.record_of m (rows_from es store k rows) ≡ Some (row_of es store (k + index m store k rows) (get_or rows (index m store k rows) no_row))
+unfolding index rows_from row_of row_message
 record_found es m store k [] h = let z : ⊥ = omega arith in absurd z
 record_found es m store k (row ∷ rows) h = turn (are_same_bytes m (row_message k row store)) h (record_found es m store (k + 1) rows)
   where
     turn : (b : Bool) → cond b 0 (suc (index m store (k + 1) rows)) < suc (length rows)
-        → (index m store (k + 1) rows < length rows → C.record_of m (rows_from es store (k + 1) rows) ≡ some (row_of es store (k + 1 + index m store (k + 1) rows) (get_or rows (index m store (k + 1) rows) no_row)))
-        → cond b (some (row_of es store k row)) (C.record_of m (rows_from es store (k + 1) rows))
-        ≡ some (row_of es store (k + cond b 0 (suc (index m store (k + 1) rows))) (get_or (row ∷ rows) (cond b 0 (suc (index m store (k + 1) rows))) no_row))
+        → (index m store (k + 1) rows < length rows → C.record_of m (rows_from es store (k + 1) rows) ≡ Some (row_of es store (k + 1 + index m store (k + 1) rows) (get_or rows (index m store (k + 1) rows) no_row)))
+        → cond b (Some (row_of es store k row)) (C.record_of m (rows_from es store (k + 1) rows))
+        ≡ Some (row_of es store (k + cond b 0 (suc (index m store (k + 1) rows))) (get_or (row ∷ rows) (cond b 0 (suc (index m store (k + 1) rows))) no_row))
     turn true h f = rw (add-zero k)
     turn false h f = let e : k + suc (index m store (k + 1) rows) ≡ k + 1 + index m store (k + 1) rows = omega arith in rw e (f (omega arith))
 
-record_none : (es : List SignerSlot) (m store : List ℕ) (k : ℕ) (rows : List SignRoundInfo) → index m store k rows ≡ length rows → C.record_of m (rows_from es store k rows) ≡ none
-unfolding index find rows_from row_of row_message
+record_none : (es : List SignerSlot) (m store : List ℕ) (k : ℕ) (rows : List SignRoundInfo) → index m store k rows ≡ length rows → C.record_of m (rows_from es store k rows) ≡ None
+unfolding index rows_from row_of row_message
 record_none es m store k [] h = refl
 record_none es m store k (row ∷ rows) h = turn (are_same_bytes m (row_message k row store)) h (record_none es m store (k + 1) rows)
   where
-    turn : (b : Bool) → cond b 0 (suc (index m store (k + 1) rows)) ≡ suc (length rows) → (index m store (k + 1) rows ≡ length rows → C.record_of m (rows_from es store (k + 1) rows) ≡ none)
-        → cond b (some (row_of es store k row)) (C.record_of m (rows_from es store (k + 1) rows)) ≡ none
+    turn : (b : Bool) → cond b 0 (suc (index m store (k + 1) rows)) ≡ suc (length rows) → (index m store (k + 1) rows ≡ length rows → C.record_of m (rows_from es store (k + 1) rows) ≡ None)
+        → cond b (Some (row_of es store k row)) (C.record_of m (rows_from es store (k + 1) rows)) ≡ None
     turn true h f = let z : ⊥ = omega arith in absurd z
     turn false h f = f (omega arith)
 
@@ -81,14 +81,14 @@ module _ (s : Coordinator) (store : List ℕ) (shaped : Shaped s) (w : is_within
   unfolding record_place
   at_index = place_index m store 0 live ∙ zero-add _
 
-  pub found_record : r < s.records.count → C.record_of m c.round.message_nonces ≡ some (row_of (slots_of s.config) store r (get_or s.records.rows r no_row))
+  pub found_record : r < s.records.count → C.record_of m c.round.message_nonces ≡ Some (row_of (slots_of s.config) store r (get_or s.records.rows r no_row))
   unfolding coordinator_of round_of
   found_record h =
       let e = at_index in
       let l = live_length in
       rw (zero-add (index m store 0 live), ← e, get_or-take s.records.count s.records.rows r no_row h) at (record_found (slots_of s.config) m store 0 live (omega arith))
 
-  pub no_record : s.records.count ≤ r → C.record_of m c.round.message_nonces ≡ none
+  pub no_record : s.records.count ≤ r → C.record_of m c.round.message_nonces ≡ None
   unfolding coordinator_of round_of
   no_record h = let e = at_index in let l = live_length in record_none (slots_of s.config) m store 0 live (omega (arith, index_le m store 0 live))
 
@@ -117,8 +117,8 @@ module _ (s : Coordinator) (store : List ℕ) (shaped : Shaped s) (w : is_within
             rw (no_record h) (ap (λ (n : ℕ). ltb n record_limit) (records_length ∙ same))
 
     -- a second response
-    asks_again : (i : ℕ) → slot_of id s.config ≡ some i → C.responded id (C.responses_of (C.record_of m c.round.message_nonces)) ≡ held_at s.records r i
-    unfolding held_at row_of find
+    asks_again : (i : ℕ) → slot_of id s.config ≡ Some i → C.responded id (C.responses_of (C.record_of m c.round.message_nonces)) ≡ held_at s.records r i
+    unfolding held_at row_of
     asks_again i f = by (ltb r s.records.count) refl
       where
         by : (b : Bool) → ltb r s.records.count ≡ b
@@ -131,7 +131,7 @@ module _ (s : Coordinator) (store : List ℕ) (shaped : Shaped s) (w : is_within
         by false e = rw (no_record (ltb-false r s.records.count e))
 
     -- not configured: nothing
-    nowhere : slot_of id s.config ≡ none → admitted (config_of s.config) (standing_of s).dkg_end_messages (standing_of s).malicious_signer_ids q ≡ false
+    nowhere : slot_of id s.config ≡ None → admitted (config_of s.config) (standing_of s).dkg_end_messages (standing_of s).malicious_signer_ids q ≡ false
     unfolding admitted
     nowhere n = rw (not_listed s.config id n)
 
@@ -140,8 +140,8 @@ module _ (s : Coordinator) (store : List ℕ) (shaped : Shaped s) (w : is_within
         (cond (question19 c q) (cond (C.responded id (C.responses_of (C.record_of m c.round.message_nonces))) ignored records) no_room) ignored
         ≡ meaning (given o (verdict_at s store m keys nonces) Nothing)
     unfolding verdict_at verdict_on meaning
-    at_slot none e = rw (nowhere e)
-    at_slot (some i) e =
+    at_slot None e = rw (nowhere e)
+    at_slot (Some i) e =
         rw (admitted_at_law s i q e, asks_19, asks_again i e)
         (cond_image meaning (admitted_at s i (ids_in keys) (nonces_in nonces)) (cond_image meaning (ltb r record_limit) (cond_image meaning (held_at s.records r i) refl refl) refl) refl)
 

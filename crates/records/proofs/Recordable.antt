@@ -4,7 +4,7 @@ use Prim.Native.Nat.{ℕ, ◌<◌}
 use mathlib.Core.Path.{◌≡◌, refl, sym, ap, ◌∙◌}
 use mathlib.Core.Bool.{Bool, true, false, cond}
 use mathlib.Core.List.{List}
-use mathlib.Core.Option.{Option, some, none}
+use Rattle.std.specs.Prelude.{Option, Some, None}
 use native.Mathlib.Omega.{arith}
 use borrow.Author.Tests.{ltb-true, lt-ltb}
 use lib.Dec.{eqb, ltb}
@@ -23,7 +23,7 @@ use Rattle.records.specs.Verdicts.{held_at, verdict_on, verdict_at, verdict_of}
 
 -- the signer's slot, room for its message, no response there
 pub record Recordable (s : Coordinator) (store m : List ℕ) (id i : ℕ) : Type 0 where
-  pub found : slot_of id s.config ≡ some i
+  pub found : slot_of id s.config ≡ Some i
   pub room : record_place m s.records store < record_limit
   pub free :
       record_place m s.records store < s.records.count
@@ -53,8 +53,8 @@ module _ (s : Coordinator) (got : Ids) (id : ℕ) (store m keys nonces : List �
 
   at_slot : (o : Option ℕ) → slot_of id s.config ≡ o → given o (verdict_at s store m keys nonces) Nothing ≡ Record r i → (r ≡ p) × Recordable s store m id i
   unfolding verdict_at verdict_on held_at
-  at_slot none f e = absurd (not_nothing e)
-  at_slot (some j) f e =
+  at_slot None f e = absurd (not_nothing e)
+  at_slot (Some j) f e =
       let admits = took (admitted_at s j (ids_in keys) (nonces_in nonces)) not_nothing e in
       let fits = took (ltb p record_limit) not_full admits.1 in
       let held = left (held_at s.records p j) not_nothing fits.1 in
@@ -63,7 +63,7 @@ module _ (s : Coordinator) (got : Ids) (id : ℕ) (store m keys nonces : List �
       let k : j ≡ i = cc in (
         sym q,
         record {
-          found = f ∙ ap some k;
+          found = f ∙ ap Some k;
           room = ltb-true p record_limit fits.0;
           free = λ l. rw k at (rw (lt-ltb p s.records.count l) at held.0);
         },

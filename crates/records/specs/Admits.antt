@@ -1,6 +1,5 @@
 -- A signer's slot, and what is asked of a response there.
-use Rattle.std.specs.Prelude.{ℕ, Bool, false, not, ◌&&◌, List, get_or}
-use Rattle.std.proofs.Math.Option.{Option, some, none}
+use Rattle.std.specs.Prelude.{ℕ, Bool, false, not, ◌&&◌, List, get_or, Option}
 use Rattle.layout.specs.Messages.{Nonce}
 use Rattle.validity.specs.Keys.{listed, same_set}
 use Rattle.validity.specs.Nonces.{nonces_valid}
@@ -8,13 +7,6 @@ use Rattle.state.specs.declared.fields.Config.{Config}
 use Rattle.state.specs.declared.fields.Coordinator.{Coordinator}
 use Rattle.state.specs.Slots.{slot_from}
 use Rattle.state.specs.View.{ids_of, no_entry}
-use Rattle.records.specs.declared.admits.Slot.{Slot}
-use Rattle.records.specs.declared.admits.Slot.TheVariants.{At, Nowhere}
-
--- what a search for a slot answers
-unfoldable pub slot_answer : Option ℕ → Slot
-slot_answer none = Nowhere
-slot_answer (some i) = At i
 
 -- the signer's slot, the first that has its id
 abbrev pub slot_of : ℕ → Config → Option ℕ

@@ -9,35 +9,28 @@ use state::fields::{Records, ResponseSlot, SignRoundInfo};
 use state::places::{KEYS_START, NONCES_START, RECORD_BYTES, RESPONSE_BYTES};
 
 // Whether the record r is that of this message.
-fn is_of(row: SignRoundInfo, r: usize, store: &[u8], message: &[u8]) -> bool
+fn is_of(row: &SignRoundInfo, r: usize, store: &[u8], message: &[u8]) -> bool
     requires { r < record_limit }
-    ensures { result ≡ are_same_bytes message.now (row_message r row store.now) }
+    ensures { result ≡ are_same_bytes message.now (row_message r row.now store.now) }
 {
-    let at = RECORD_BYTES * r;
-    let held = wire::part(store, at, row.message);
-    wire::same(message, held)
+    wire::same(message, wire::part(store, RECORD_BYTES * r, row.message))
 }
 
 // The record of a message; where there is none, the place of the next.
 pub fn place(records: Records, store: &[u8], message: &[u8]) -> usize
-    requires { records.count ≤ record_limit }
     ensures { result ≡ record_place message.now records store.now }
 {
-    let count = records.count;
-    let rows = records.rows;
-    let mut r: usize = 0;
-    while r < count {
-        let row = rows[r];
+    let rows = records.live();
+    for (r, row) in rows.iter().enumerate() {
         if is_of(row, r, store, message) {
             return r;
         }
-        r += 1;
     }
-    r
+    rows.len()
 }
 
 // The record r, opened where it is not open.
-fn open(records: Records, store: &mut [u8], r: usize, message: &[u8]) -> Records
+fn open(mut records: Records, store: &mut [u8], r: usize, message: &[u8]) -> Records
     requires { Placed records r 0 }
     ensures value { result ≡ opened r (length message.now) records }
     ensures store_after { store.new ≡ opened_store r message.now records store.old }
@@ -58,15 +51,12 @@ fn open(records: Records, store: &mut [u8], r: usize, message: &[u8]) -> Records
         nonces: 0,
         clock: 0,
     };
-    let slots = [empty; SIGNER_LIMIT];
-    let row = SignRoundInfo {
+    records.rows[r] = SignRoundInfo {
         message: message.len(),
-        slots,
+        slots: [empty; SIGNER_LIMIT],
     };
-    let mut after = records;
-    after.rows[r] = row;
-    after.count = records.count + 1;
-    after
+    records.count += 1;
+    records
 }
 
 // The response of the signer in slot i, on record r, with the clock reading of its call.
@@ -90,7 +80,7 @@ pub fn add(
     let base = RECORD_BYTES * r + RESPONSE_BYTES * i;
     wire::copy(store, base + KEYS_START, key_ids);
     wire::copy(store, base + NONCES_START, nonces);
-    let slot = ResponseSlot {
+    after.rows[r].slots[i] = ResponseSlot {
         held: true,
         waits: true,
         ids,
@@ -98,8 +88,5 @@ pub fn add(
         nonces: nonces.len() / 66,
         clock,
     };
-    let mut row = after.rows[r];
-    row.slots[i] = slot;
-    after.rows[r] = row;
     after
 }

@@ -4,7 +4,6 @@ ghost use Rattle.layout.specs.Limits.{signer_limit, record_limit};
 ghost use Rattle.records.specs.Records.{Placed};
 ghost use Rattle.records.specs.Verdicts.{held_at, verdict_on, verdict_at, verdict_of, VerdictReady};
 
-use crate::admits::Slot;
 use crate::{admits, records};
 use layout::{Ids, RECORD_LIMIT, SignerId};
 use state::fields::{Coordinator, Records};
@@ -20,48 +19,44 @@ pub enum Verdict {
     Record(usize, usize),
 }
 
-fn is_held_at(rs: Records, r: usize, i: usize) -> bool
-    requires { Placed rs r i }
-    ensures { result ≡ held_at rs r i }
+#[tactic(auto, unfolding(crate::specs::Verdicts::held_at))]
+fn is_held_at(rs: &Records, r: usize, i: usize) -> bool
+    requires { Placed rs.now r i }
+    ensures { result ≡ held_at rs.now r i }
 {
-    if rs.count <= r {
-        return false;
-    }
-    let found = rs.rows[r];
-    let slot = found.slots[i];
-    slot.held
+    r < rs.count && rs.rows[r].slots[i].held
 }
 
-fn verdict_on(rs: Records, r: usize, i: usize) -> Verdict
-    requires { (rs.count ≤ record_limit) × (i < signer_limit) }
-    ensures { result ≡ verdict_on rs r i }
+#[tactic(auto, unfolding(crate::specs::Verdicts::verdict_on))]
+fn verdict_on(rs: &Records, r: usize, i: usize) -> Verdict
+    requires { (rs.now.count ≤ record_limit) × (i < signer_limit) }
+    ensures { result ≡ verdict_on rs.now r i }
 {
     if RECORD_LIMIT <= r {
-        return Verdict::Full;
+        Verdict::Full
+    } else if is_held_at(rs, r, i) {
+        Verdict::Nothing
+    } else {
+        Verdict::Record(r, i)
     }
-    if is_held_at(rs, r, i) {
-        return Verdict::Nothing;
-    }
-    Verdict::Record(r, i)
 }
 
+#[tactic(auto, unfolding(crate::specs::Verdicts::verdict_at))]
 fn verdict_at(
-    s: Coordinator,
+    s: &Coordinator,
     store: &[u8],
     i: usize,
     message: &[u8],
     key_ids: &[u8],
     nonces: &[u8],
 ) -> Verdict
-    requires { VerdictReady s key_ids.now × (i < signer_limit) }
-    ensures { result ≡ verdict_at s store.now message.now key_ids.now nonces.now i }
+    requires { VerdictReady s.now key_ids.now × (i < signer_limit) }
+    ensures { result ≡ verdict_at s.now store.now message.now key_ids.now nonces.now i }
 {
     if !admits::is_admitted(s, i, key_ids, nonces) {
         return Verdict::Nothing;
     }
-    let rs = s.records;
-    let r = records::place(rs, store, message);
-    verdict_on(rs, r, i)
+    verdict_on(&s.records, records::place(s.records, store, message), i)
 }
 
 // 16, 17 and 18, then the silent tests, then 19.
@@ -78,20 +73,17 @@ pub fn decide(
     ensures { result
         ≡ verdict_of s got id.0 store.now message.now key_ids.now nonces.now }
 {
-    let ids = s.ids;
-    if got.dkg_id != ids.dkg_id {
-        return Verdict::Wrong(16, got.dkg_id, ids.dkg_id);
+    if got.dkg_id != s.ids.dkg_id {
+        return Verdict::Wrong(16, got.dkg_id, s.ids.dkg_id);
     }
-    if got.sign_id != ids.sign_id {
-        return Verdict::Wrong(17, got.sign_id, ids.sign_id);
+    if got.sign_id != s.ids.sign_id {
+        return Verdict::Wrong(17, got.sign_id, s.ids.sign_id);
     }
-    if got.sign_iter_id != ids.sign_iter_id {
-        return Verdict::Wrong(18, got.sign_iter_id, ids.sign_iter_id);
+    if got.sign_iter_id != s.ids.sign_iter_id {
+        return Verdict::Wrong(18, got.sign_iter_id, s.ids.sign_iter_id);
     }
-    let config = s.config;
-    let found = admits::slot_of(config, id);
-    match found {
-        Slot::Nowhere => Verdict::Nothing,
-        Slot::At(i) => verdict_at(s, store, i, message, key_ids, nonces),
+    match admits::slot_of(s.config, id) {
+        None => Verdict::Nothing,
+        Some(i) => verdict_at(&s, store, i, message, key_ids, nonces),
     }
 }

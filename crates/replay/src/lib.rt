@@ -24,26 +24,26 @@ fn run_line(
 ) -> Host {
     let letter = wire::byte(line, 0);
     let mut args = [0u8; tokens::CASE_LENGTH];
-    let case = cases::read(line, long, site_calls::limits::is_letter(letter), &mut args);
     cases::label(rt, line);
-    print::text(rt, b": ");
-    let next = if case.fault == tokens::FINE {
-        host::run(rt, letter, &args, case.made, host, store, out)
-    } else {
-        cases::tell(rt, case.fault);
-        host
+    print::text(rt, ": ");
+    let next = match cases::read(line, long, site_calls::limits::is_letter(letter), &mut args) {
+        Ok(made) => host::run(rt, letter, &args, made, host, store, out),
+        Err(fault) => {
+            cases::tell(rt, &fault);
+            host
+        }
     };
-    print::text(rt, b". ");
+    print::text(rt, ". ");
     host::standing(rt, next);
-    print::text(rt, b"\n");
+    print::text(rt, "\n");
     next
 }
 
 // A heading is printed alone.
 fn heading(rt: &impl Print, line: &[u8]) {
-    print::text(rt, b"== ");
+    print::text(rt, "== ");
     cases::label(rt, line);
-    print::text(rt, b"\n");
+    print::text(rt, "\n");
 }
 
 fn run_or_head(
@@ -74,17 +74,16 @@ fn run_ended(
     if !line.ended {
         return at;
     }
-    let before = at.host;
     let host = run_or_head(
         rt,
         wire::part(kept, 0, line.len),
         line.long,
-        before,
+        at.host,
         store,
         out,
     );
     Progress {
-        line: lines::empty(),
+        line: Line::empty(),
         host,
     }
 }
@@ -98,13 +97,9 @@ fn run_piece(
     out: &mut [u8; layout::ANSWER_LENGTH],
 ) -> Progress {
     let mut next = at;
-    let mut i: usize = 0;
-    while i < piece.len() {
-        let to = lines::after(piece, i, b'\n');
-        let line = lines::gather(next.line, piece, i, to, kept);
-        next.line = line;
+    for part in piece.split_inclusive(|b| *b == b'\n') {
+        next.line = next.line.gather(part, kept);
         next = run_ended(rt, next, kept, store, out);
-        i = to;
     }
     next
 }
@@ -119,13 +114,12 @@ fn finish(
     out: &mut [u8; layout::ANSWER_LENGTH],
 ) {
     let line = at.line;
-    let host = at.host;
     if 0 < line.len {
         run_or_head(
             rt,
             wire::part(kept, 0, line.len),
             line.long,
-            host,
+            at.host,
             store,
             out,
         );
@@ -141,12 +135,11 @@ pub fn replay(rt: &(impl Input + Print)) {
     let mut piece = [0u8; lines::PIECE_LENGTH];
     let mut reader = rt.reader();
     let mut at = Progress {
-        line: lines::empty(),
+        line: Line::empty(),
         host: host::fresh(),
     };
     let mut ended = false;
-    let mut left = lines::PIECES;
-    while 0 < left {
+    for _ in 0..lines::PIECES {
         let got = lines::read_full(&mut reader, &mut piece);
         at = run_piece(
             rt,
@@ -157,7 +150,9 @@ pub fn replay(rt: &(impl Input + Print)) {
             &mut out,
         );
         ended = got < lines::PIECE_LENGTH;
-        left = if ended { 0 } else { left - 1 };
+        if ended {
+            break;
+        }
     }
     finish(rt, at, ended, &kept, &mut store, &mut out);
 }

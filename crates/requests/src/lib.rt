@@ -1,7 +1,7 @@
 // What the coordinator sends: the nonce request (kind 1) and the signature share request (kind 3).
 #![tactic(auto)]
 
-ghost use Rattle.std.specs.Prelude.{◌≡◌, true, [], ◌∷◌, ◌++◌, map, ◌+◌, ◌*◌, ◌≤◌, length};
+ghost use Rattle.std.specs.Prelude.{◌≡◌, true, ℕ, [], ◌∷◌, ◌++◌, map, ◌+◌, ◌*◌, ◌≤◌, length};
 ghost use Rattle.wire.specs.Bytes.{put, joined};
 ghost use Rattle.layout.specs.Limits.{message_limit, signer_limit, answer_length};
 ghost use Rattle.layout.specs.Messages.{nonce_request};
@@ -13,92 +13,64 @@ ghost use Rattle.pieces.specs.Places.{response_length, responses_hold, response_
 ghost use Rattle.requests.specs.Requests.{write_share_request};
 
 use body::RequestHead;
-use framing::Written;
-use layout::Header;
+use framing::Cursor;
 use pieces::places::ResponsePlaces;
-use pieces::{places, response};
+use pieces::response;
 
-// The header and the first two pairs of kinds 1 and 3, for `count` nested responses; the place after the root.
-fn put_request_frame(out: &mut [u8], kind: u8, count: u16, head: RequestHead, len: u32) -> u32
+// The bytes of the header and of the pairs of message and root.
+const FRAME_LENGTH: usize = 48;
+
+// The header and the first two pairs of kinds 1 and 3, for `count` nested responses. Gives the place after the root.
+fn put_request_frame(out: &mut [u8], kind: u8, count: u16, head: &RequestHead, len: usize) -> Cursor
     requires { (count ≤ signer_limit) × (len ≤ message_limit) }
-    ensures { (result ≡ 48 + 8 * count + len + length (root_of head))
+    ensures { (result.pair ≡ 48) × (result.at ≡ 48 + 8 * count + len + length (root_of head.now))
         × (out.new ≡ put out.old 0
-        (header_bytes (header_of kind (type_number head.signature_type) (2 + count) 0 head.ids)
-        ++ pairs (48 + 8 * count) (len ∷ (length (root_of head) ∷ [])))) }
+        (header_bytes (header_of kind (type_number head.now.signature_type) (2 + count) 0 head.now.ids)
+        ++ pairs (48 + 8 * count) (len ∷ (length (root_of head.now) ∷ [])))) }
 {
-    let signature_type = head.signature_type;
-    let type_number = layout::type_number(signature_type);
-    let ids = head.ids;
-    let root_len = body::root_size(head) as u32;
-    let at = 48 + 8 * (count as u32);
-    framing::put_header(
-        out,
-        Header {
-            kind,
-            signature_type: type_number,
-            pairs: 2 + count,
-            signer_id: 0,
-            ids,
-        },
-    );
-    framing::put_pair(out, 32, at, len);
-    framing::put_pair(out, 40, at + len, root_len);
-    at + len + root_len
+    let pairs = Cursor {
+        pair: layout::HEADER_LENGTH,
+        at: FRAME_LENGTH + layout::PAIR_LENGTH * (count as usize),
+    };
+    framing::put_header(out, head.header(kind, 2 + count));
+    pairs.put(out, len).put(out, head.root().len())
 }
 
 // Kind 1.
-pub fn write_nonce_request(out: &mut [u8], head: RequestHead, message: &[u8]) -> Written
+pub fn write_nonce_request(out: &mut [u8], head: RequestHead, message: &[u8]) -> Result<usize, u8>
     ensures { Wrote (write_message (length out.old) (nonce_request (request_of head message.now)))
         out.old result out.new }
 {
-    if out.len() < layout::ANSWER_LENGTH {
-        return Written::Refused(7);
-    }
-    if layout::MESSAGE_LIMIT < message.len() {
-        return Written::Refused(9);
-    }
-    let end = put_request_frame(out, 1, 0, head, message.len() as u32);
-    body::put_body(out, 48, head, message);
-    Written::Bytes(end as usize)
+    framing::room(out)?;
+    framing::limits(message.len() <= layout::MESSAGE_LIMIT)?;
+    let end = put_request_frame(out, 1, 0, &head, message.len());
+    body::put_body(out, FRAME_LENGTH, &head, message);
+    Ok(end.at)
 }
 
-// The pairs of the nested responses, from place 48 on; the first response lies at `offset`. Answers where the last ends.
-fn put_response_pairs(out: &mut [u8], offset: u32, size: usize, ps: ResponsePlaces) -> u32
-    requires { (offset ≤ 416) × (responses_hold size ps ≡ true) }
-    ensures { (result ≡ offset + total (map response_length (places_of ps)))
-        × (out.new ≡ put out.old 48 (pairs offset (map response_length (places_of ps)))) }
+// The pairs of the nested responses, from the pair place 48 on. Answers where the last response ends.
+fn put_response_pairs(out: &mut [u8], first: Cursor, ps: &ResponsePlaces) -> usize
+    requires { (first.pair ≡ 48) × (first.at ≤ 416) × ((size : ℕ) × (responses_hold size ps.now ≡ true)) }
+    ensures { (result ≡ first.at + total (map response_length (places_of ps.now)))
+        × (out.new ≡ put out.old 48 (pairs first.at (map response_length (places_of ps.now)))) }
 {
-    let places = ps.places;
-    let count = ps.count;
-    let mut p: u32 = 48;
-    let mut at = offset;
-    let mut i: usize = 0;
-    while i < count {
-        let place = places[i];
-        let len = response::response_length(place);
-        framing::put_pair(out, p, at, len);
-        p += 8;
-        at += len;
-        i += 1;
+    let mut next = first;
+    for place in ps.live() {
+        next = next.put(out, place.packet_length());
     }
-    at
+    next.at
 }
 
 // The nested responses, one after the other from `at`.
-fn put_responses(out: &mut [u8], at: u32, source: &[u8], ps: ResponsePlaces)
-    requires { (at ≤ 416) × (answer_length ≤ length out.old) × (responses_hold (length source.now) ps ≡ true) }
+fn put_responses(out: &mut [u8], at: usize, source: &[u8], ps: &ResponsePlaces)
+    requires { (at ≤ 416) × (answer_length ≤ length out.old) × (responses_hold (length source.now) ps.now ≡ true) }
     ensures { out.new ≡ put out.old at
-        (joined (map encode_response (map (response_at source.now) (places_of ps)))) }
+        (joined (map encode_response (map (response_at source.now) (places_of ps.now)))) }
 {
-    let places = ps.places;
-    let count = ps.count;
-    let mut start = at as usize;
-    let mut i: usize = 0;
-    while i < count {
-        let place = places[i];
-        let _room = response::write_nested(out, start, source, place);
-        start += response::response_length(place) as usize;
-        i += 1;
+    let mut start = at;
+    for place in ps.live() {
+        response::write_nested(out, start, source, place);
+        start += place.packet_length();
     }
 }
 
@@ -109,24 +81,21 @@ pub fn write_signature_share_request(
     message: &[u8],
     source: &[u8],
     ps: ResponsePlaces,
-) -> Written
+) -> Result<usize, u8>
     ensures { Wrote (write_share_request (length out.old) head message.now source.now ps)
         out.old result out.new }
 {
-    if out.len() < layout::ANSWER_LENGTH {
-        return Written::Refused(7);
-    }
-    if layout::MESSAGE_LIMIT < message.len() {
-        return Written::Refused(9);
-    }
-    let size = source.len();
-    if !places::are_responses_held(size, ps) {
-        return Written::Refused(9);
-    }
-    let count = (ps.count % 65536) as u16;
-    let offset = put_request_frame(out, 3, count, head, message.len() as u32);
-    let end = put_response_pairs(out, offset, size, ps);
-    body::put_body(out, 48 + 8 * (count as u32), head, message);
-    put_responses(out, offset, source, ps);
-    Written::Bytes(end as usize)
+    framing::room(out)?;
+    framing::limits(message.len() <= layout::MESSAGE_LIMIT)?;
+    framing::limits(ps.are_held(source.len()))?;
+    let nested = put_request_frame(out, 3, ps.count as u16, &head, message.len());
+    let end = put_response_pairs(out, nested, &ps);
+    body::put_body(
+        out,
+        FRAME_LENGTH + layout::PAIR_LENGTH * ps.count,
+        &head,
+        message,
+    );
+    put_responses(out, nested.at, source, &ps);
+    Ok(end)
 }

@@ -10,7 +10,7 @@ use lib.Dec.{eqb}
 use lib.ListN.{length, take, drop, length-append, length-drop, length-map, take-append-drop}
 use lib.Seq.{length-take-le, take_at, drop_at}
 use borrow.Author.Tests.{eq-eqb, eqb-true}
-use Rattle.wire.specs.Bytes.{Bytes, All, joined}
+use Rattle.wire.specs.Bytes.{Bytes, All}
 use Rattle.wire.proofs.Lists.{and_left, and_right, and_both, all_imp, all_map, length-joined}
 use Rattle.wire.proofs.Numbers.{bytes_take, bytes_drop}
 use Rattle.layout.specs.Messages.{SignatureShare}
@@ -63,7 +63,7 @@ none (x ∷ xs) e = let z : ⊥ = omega arith in absurd z
 pub shares_read :
     (ids z_i counts key_ids : List ℕ) → Agree ids z_i counts key_ids
     → SharesRead ids z_i counts key_ids (shares_given ids z_i counts key_ids)
-unfolding shares_given joined total
+unfolding shares_given total
 shares_read [] z_i [] key_ids a =
     record {
       ids_read = refl;
@@ -114,7 +114,7 @@ shares_fit (id ∷ ids) z_i (n ∷ counts) key_ids a i b k =
 
 -- as many key ids as the counts say
 pub keys-counted : (ss : List SignatureShare) → length (key_ids_of ss) ≡ key_count ss
-unfolding key_count joined
+unfolding key_count
 keys-counted [] = refl
 keys-counted (x ∷ ss) = rw (length-append, keys-counted ss)
 
@@ -146,7 +146,7 @@ agree_of ss f =
     }
 
 pub shares_given_law : (ss : List SignatureShare) → All ShareFits ss → shares_given (ids_of ss) (z_is_of ss) (counts_of ss) (key_ids_of ss) ≡ ss
-unfolding shares_given joined
+unfolding shares_given
 shares_given_law [] f = refl
 shares_given_law (x ∷ ss) f =
     let zs = z_is_of ss in

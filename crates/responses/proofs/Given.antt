@@ -14,7 +14,7 @@ use Rattle.layout.proofs.Entries.{length-id_bytes}
 use Rattle.framing.specs.Writing.{total}
 use Rattle.responses.specs.Responses.{share_of, shares_given, share_length}
 use Rattle.responses.specs.ReadBack.{Agree}
-use Rattle.responses.proofs.Walks.{drop_next}
+use Rattle.pieces.proofs.Given.{drop_next}
 use Rattle.responses.proofs.Cut.{agree_next}
 
 -- a share's bytes
@@ -63,7 +63,6 @@ pub put_share_next :
     (joined (map share_bytes
     (shares_given (drop (i + 1) ids) (drop ((i + 1) * 32) z_i) (drop (i + 1) counts) (drop (k + get_or counts i 0) key_ids))))
     ≡ put out next (joined (map share_bytes (shares_given (drop i ids) (drop (i * 32) z_i) (drop i counts) (drop k key_ids))))
-unfolding joined
 put_share_next out ids z_i counts key_ids i k next h g l m =
     let n = get_or counts i 0 in
     let scalar : length (take 32 (drop (i * 32) z_i)) ≡ 32 = length-take-le 32 (drop (i * 32) z_i) (rw length-drop (omega arith)) in

@@ -1,5 +1,6 @@
 -- What the writers answer and leave in the buffer, over the message: by the two questions; and where its packet has what.
 -- Assumes nothing.
+use Rattle.std.specs.Prelude.{Err, Ok}
 use Prim.Native.Nat.{ℕ, ◌≤◌, ◌<◌}
 use mathlib.Core.Path.{◌≡◌, refl, sym, ap, ◌∙◌}
 use mathlib.Core.Bool.{Bool, true, false, cond, ◌&&◌, false≢true}
@@ -19,7 +20,6 @@ use Rattle.layout.proofs.Entries.{ids_in-id_bytes, share_in_share_bytes}
 use Rattle.layout.proofs.Frame.{header_in_packet, parts_from_packet}
 use Rattle.layout.proofs.Written.{headers}
 use Rattle.layout.proofs.RoundTrip.{within_addressable}
-use Rattle.framing.specs.declared.Written.TheVariants.{Bytes as Count, Refused}
 use Rattle.framing.specs.Writing.{Writing, written, refused, Wrote, answer, buffer}
 use Rattle.framing.proofs.Laws.{put_whole}
 use Rattle.responses.specs.Responses.{lending}
@@ -72,21 +72,21 @@ module _ (room : ℕ) (agree : Bool) (m : Message) where
 
 -- what a writer that asks these answers and leaves in the buffer
 module _ (out : List ℕ) (agree : Bool) (m : Message) where
-  pub lent_9 : agree && within m ≡ false → Wrote (lending (length out) agree m) out (Refused 9) out
+  pub lent_9 : agree && within m ≡ false → Wrote (lending (length out) agree m) out (Err 9) out
   unfolding lending answer buffer
   lent_9 f = rw f (record { answered = refl; buffered = refl })
 
   module _ (f : agree && within m ≡ true) (n : ℕ) (size : length (encode m) ≡ n) where
-    pub lent_26 : length out < n → Wrote (lending (length out) agree m) out (Refused 26) out
+    pub lent_26 : length out < n → Wrote (lending (length out) agree m) out (Err 26) out
     unfolding lending answer buffer
     lent_26 h = rw (f, lt-ltb (length out) (length (encode m)) (omega arith)) (record { answered = refl; buffered = refl })
 
     pub lent-wrote :
-        n ≤ length out → (after : List ℕ) → after ≡ put out 0 (encode m) → Wrote (lending (length out) agree m) out (Count n) after
+        n ≤ length out → (after : List ℕ) → after ≡ put out 0 (encode m) → Wrote (lending (length out) agree m) out (Ok n) after
     unfolding lending answer buffer
     lent-wrote h after p =
         rw (f, le-ltb (length out) (length (encode m)) (omega arith))
-        (record { answered = ap Count (sym size); buffered = p ∙ put_whole out (encode m) (omega arith) })
+        (record { answered = ap Ok (sym size); buffered = p ∙ put_whole out (encode m) (omega arith) })
 
 -- the packet of a message within the limits has the message's header and its parts
 module _ (m : Message) (f : Fits m) (w : within m ≡ true) where

@@ -1,14 +1,14 @@
 -- What the two packets are: question 9 by the lists' lengths, the packet's parts and length, and how it is put together.
 -- Assumes nothing.
 use Prim.Native.Nat.{ℕ, ◌+◌, ◌*◌, ◌/◌, ◌%◌, ◌≤◌}
-use mathlib.Core.Path.{◌≡◌, refl, sym, ◌∙◌}
-use mathlib.Core.Bool.{Bool, true, false, not, ◌&&◌}
+use mathlib.Core.Path.{◌≡◌, refl, ◌∙◌}
+use mathlib.Core.Bool.{Bool, true, false, ◌&&◌}
 use mathlib.Core.List.{List, [], ◌∷◌, ◌++◌, map}
 use native.Mathlib.Nat.{div-add-mod'}
 use native.Mathlib.Omega.{arith}
 use lib.Dec.{eqb, leb}
 use lib.ListN.{length, length-map}
-use borrow.Author.Tests.{leb-true, le-leb, eqb-true, eq-eqb, not-true, not-false}
+use borrow.Author.Tests.{leb-true, le-leb, eqb-true, eq-eqb}
 use Rattle.wire.specs.Bytes.{Bytes, put, joined}
 use Rattle.wire.proofs.Buffer.{put_next}
 use Rattle.wire.proofs.Lists.{and_left, and_right, and_both, and_false}
@@ -27,13 +27,6 @@ use Rattle.responses.specs.Responses.{nonce_response_given, shares_given, share_
 use Rattle.responses.specs.ReadBack.{nonce_response_length, share_response_length, NoncesTaken, Agree, SharesTaken}
 use Rattle.responses.proofs.Cut.{agreed, agreeing, counted}
 use Rattle.responses.proofs.Given.{lengths_given, total_lengths}
-
--- a question that a function answered, by its answer
-pub passed : {r b : Bool} → r ≡ b → not r ≡ false → b ≡ true
-passed {r} e h = sym e ∙ not-false r h
-
-pub failed : {r b : Bool} → r ≡ b → not r ≡ true → b ≡ false
-failed {r} e h = sym e ∙ not-true r h
 
 -- 9 of a nonce response, by lengths
 abbrev pub nonces_within : ℕ → ℕ → ℕ → Bool

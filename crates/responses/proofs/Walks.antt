@@ -2,21 +2,16 @@
 -- Assumes nothing.
 use Prim.Native.Nat.{ℕ, ◌+◌, ◌≤◌, ◌<◌}
 use mathlib.Core.Path.{◌≡◌}
-use mathlib.Core.List.{List, ◌∷◌}
-use native.Mathlib.Numerals.{add-one}
+use mathlib.Core.List.{List}
 use native.Mathlib.Omega.{arith}
-use lib.ListN.{length, get_or, drop, drop_of_length-le}
-use lib.Seq.{drop-cons}
-use Rattle.wire.specs.Bytes.{le, put, joined}
+use lib.ListN.{length, get_or, drop}
+use Rattle.wire.specs.Bytes.{le, put}
 use Rattle.layout.specs.Encode.{id_bytes}
 use Rattle.framing.specs.Writing.{total}
 use Rattle.framing.proofs.Laws.{put-field}
+use Rattle.pieces.proofs.Given.{drop_next}
 
--- the element at i, then those after it
-pub drop_next : {A : Type 0} (xs : List A) (i : ℕ) (d : A) → i < length xs → drop i xs ≡ get_or xs i d ∷ drop (i + 1) xs
-drop_next xs i d h = rw add-one (drop-cons xs i d h)
-
--- the same of the sum
+-- the sum of the elements from i on: the one at i, then those after it
 pub total_next : (xs : List ℕ) (i : ℕ) → i < length xs → total (drop i xs) ≡ get_or xs i 0 + total (drop (i + 1) xs)
 unfolding total
 total_next xs i h = rw (drop_next xs i 0 h)
@@ -25,13 +20,9 @@ total_next xs i h = rw (drop_next xs i 0 h)
 pub count_in_law : (counts : List ℕ) (i k n : ℕ) → i < length counts → k + total (drop i counts) ≡ n → k + get_or counts i 0 ≤ n
 count_in_law counts i k n h e = omega (arith, total_next counts i h)
 
-pub total_none : (xs : List ℕ) (i : ℕ) → length xs ≤ i → total (drop i xs) ≡ 0
-unfolding total
-total_none xs i h = rw (drop_of_length-le xs {i = i} h)
-
 -- the id at i written, then those after it
 pub put_id_next :
     (out : List ℕ) (p q : ℕ) (ids : List ℕ) (i : ℕ) → p + 4 ≡ q → i < length ids
     → put (put out p (le 4 (get_or ids i 0))) q (id_bytes (drop (i + 1) ids)) ≡ put out p (id_bytes (drop i ids))
-unfolding id_bytes joined
+unfolding id_bytes
 put_id_next out p q ids i e h = rw (drop_next ids i 0 h, ← e) (put-field out p 4 (get_or ids i 0) _)

@@ -1,9 +1,7 @@
 -- Rounds for a signer's writers: what each is given, and what it answers; and one packet, byte by byte.
-use Rattle.std.specs.Prelude.{ℕ, List, [], ◌∷◌, ◌++◌, replicate}
+use Rattle.std.specs.Prelude.{Err, Ok, ℕ, List, [], ◌∷◌, ◌++◌, replicate}
 use Rattle.layout.specs.Messages.{SignatureShare}
-use Rattle.framing.specs.declared.Written.{Written}
-use Rattle.framing.specs.declared.Written.TheVariants.{Bytes, Refused}
-use Rattle.framing.specs.Writing.{Writing, answer}
+use Rattle.framing.specs.Writing.{Writing, answer, Written}
 use Rattle.responses.specs.declared.lists.ResponseHead.{ResponseHead}
 use Rattle.responses.specs.Responses.{write_nonce_response, share_of, shares_given, write_signature_share_response}
 use Rattle.responses.specs.ReadBack.{sender_of}
@@ -31,26 +29,26 @@ writing_nonces r =
 unfoldable pub nonce_rounds : List NonceRound
 nonce_rounds =
     -- message "a", keys 2 and 3, two nonces: an exact fit, a byte less, a byte more
-    nonces 197 1 (2 ∷ 3 ∷ []) 132 (Bytes 197)
-    ∷ nonces 196 1 (2 ∷ 3 ∷ []) 132 (Refused 26)
-    ∷ nonces 198 1 (2 ∷ 3 ∷ []) 132 (Bytes 197)
+    nonces 197 1 (2 ∷ 3 ∷ []) 132 (Ok 197)
+    ∷ nonces 196 1 (2 ∷ 3 ∷ []) 132 (Err 26)
+    ∷ nonces 198 1 (2 ∷ 3 ∷ []) 132 (Ok 197)
     -- 9 before 26
-    ∷ nonces 0 257 [] 0 (Refused 9)
-    ∷ nonces 0 256 [] 0 (Refused 26)
+    ∷ nonces 0 257 [] 0 (Err 9)
+    ∷ nonces 0 256 [] 0 (Err 26)
     -- the largest packet, and one more of each
-    ∷ nonces 1432 256 (replicate 16 7) 1056 (Bytes 1432)
-    ∷ nonces 1431 256 (replicate 16 7) 1056 (Refused 26)
-    ∷ nonces 2000 257 (replicate 16 7) 1056 (Refused 9)
-    ∷ nonces 2000 256 (replicate 17 7) 1056 (Refused 9)
-    ∷ nonces 2000 256 (replicate 16 7) 1122 (Refused 9)
+    ∷ nonces 1432 256 (replicate 16 7) 1056 (Ok 1432)
+    ∷ nonces 1431 256 (replicate 16 7) 1056 (Err 26)
+    ∷ nonces 2000 257 (replicate 16 7) 1056 (Err 9)
+    ∷ nonces 2000 256 (replicate 17 7) 1056 (Err 9)
+    ∷ nonces 2000 256 (replicate 16 7) 1122 (Err 9)
     -- nonces that are no whole entries
-    ∷ nonces 2000 1 (2 ∷ 3 ∷ []) 131 (Refused 9)
-    ∷ nonces 2000 1 (2 ∷ 3 ∷ []) 133 (Refused 9)
-    ∷ nonces 2000 1 (2 ∷ 3 ∷ []) 99 (Refused 9)
+    ∷ nonces 2000 1 (2 ∷ 3 ∷ []) 131 (Err 9)
+    ∷ nonces 2000 1 (2 ∷ 3 ∷ []) 133 (Err 9)
+    ∷ nonces 2000 1 (2 ∷ 3 ∷ []) 99 (Err 9)
     -- nothing at all, and a nonce more than there are keys
-    ∷ nonces 56 0 [] 0 (Bytes 56)
-    ∷ nonces 55 0 [] 0 (Refused 26)
-    ∷ nonces 122 0 [] 66 (Bytes 122)
+    ∷ nonces 56 0 [] 0 (Ok 56)
+    ∷ nonces 55 0 [] 0 (Err 26)
+    ∷ nonces 122 0 [] 66 (Ok 122)
     ∷ []
 
 -- the buffer's length, the shares' ids, how many bytes of z_i, the counts, the key ids, and the answer
@@ -73,26 +71,26 @@ writing_shares r =
 unfoldable pub share_rounds : List ShareRound
 share_rounds =
     -- no shares
-    shares 32 [] 0 [] [] (Bytes 32)
-    ∷ shares 31 [] 0 [] [] (Refused 26)
+    shares 32 [] 0 [] [] (Ok 32)
+    ∷ shares 31 [] 0 [] [] (Err 26)
     -- one share of keys 2 and 3
-    ∷ shares 84 (2 ∷ []) 32 (2 ∷ []) (2 ∷ 3 ∷ []) (Bytes 84)
-    ∷ shares 83 (2 ∷ []) 32 (2 ∷ []) (2 ∷ 3 ∷ []) (Refused 26)
+    ∷ shares 84 (2 ∷ []) 32 (2 ∷ []) (2 ∷ 3 ∷ []) (Ok 84)
+    ∷ shares 83 (2 ∷ []) 32 (2 ∷ []) (2 ∷ 3 ∷ []) (Err 26)
     -- the largest packet, by 16 shares of a key each and by 16 of which one has all keys
-    ∷ shares 800 (replicate 16 1) 512 (replicate 16 1) (replicate 16 7) (Bytes 800)
-    ∷ shares 799 (replicate 16 1) 512 (replicate 16 1) (replicate 16 7) (Refused 26)
-    ∷ shares 800 (replicate 16 1) 512 (16 ∷ replicate 15 0) (replicate 16 7) (Bytes 800)
+    ∷ shares 800 (replicate 16 1) 512 (replicate 16 1) (replicate 16 7) (Ok 800)
+    ∷ shares 799 (replicate 16 1) 512 (replicate 16 1) (replicate 16 7) (Err 26)
+    ∷ shares 800 (replicate 16 1) 512 (16 ∷ replicate 15 0) (replicate 16 7) (Ok 800)
     -- 17 shares, 17 keys of one share, 17 keys over two
-    ∷ shares 2000 (replicate 17 1) 544 (replicate 17 0) [] (Refused 9)
-    ∷ shares 2000 (1 ∷ []) 32 (17 ∷ []) (replicate 17 7) (Refused 9)
-    ∷ shares 2000 (1 ∷ 2 ∷ []) 64 (8 ∷ 9 ∷ []) (replicate 17 7) (Refused 9)
+    ∷ shares 2000 (replicate 17 1) 544 (replicate 17 0) [] (Err 9)
+    ∷ shares 2000 (1 ∷ []) 32 (17 ∷ []) (replicate 17 7) (Err 9)
+    ∷ shares 2000 (1 ∷ 2 ∷ []) 64 (8 ∷ 9 ∷ []) (replicate 17 7) (Err 9)
     -- lists that do not agree: z_i, counts, and the counts' sum
-    ∷ shares 0 (1 ∷ []) 31 (1 ∷ []) (7 ∷ []) (Refused 9)
-    ∷ shares 0 (1 ∷ []) 64 (1 ∷ []) (7 ∷ []) (Refused 9)
-    ∷ shares 0 (1 ∷ []) 32 [] [] (Refused 9)
-    ∷ shares 0 (1 ∷ []) 32 (1 ∷ 0 ∷ []) (7 ∷ []) (Refused 9)
-    ∷ shares 0 (1 ∷ []) 32 (2 ∷ []) (7 ∷ []) (Refused 9)
-    ∷ shares 0 (1 ∷ []) 32 (0 ∷ []) (7 ∷ []) (Refused 9)
+    ∷ shares 0 (1 ∷ []) 31 (1 ∷ []) (7 ∷ []) (Err 9)
+    ∷ shares 0 (1 ∷ []) 64 (1 ∷ []) (7 ∷ []) (Err 9)
+    ∷ shares 0 (1 ∷ []) 32 [] [] (Err 9)
+    ∷ shares 0 (1 ∷ []) 32 (1 ∷ 0 ∷ []) (7 ∷ []) (Err 9)
+    ∷ shares 0 (1 ∷ []) 32 (2 ∷ []) (7 ∷ []) (Err 9)
+    ∷ shares 0 (1 ∷ []) 32 (0 ∷ []) (7 ∷ []) (Err 9)
     ∷ []
 
 -- two shares cut from the four lists: each has its own z_i and its own keys

@@ -4,7 +4,7 @@ use Prim.Native.Nat.{ℕ, zero, suc, ◌<◌, ◌≤◌}
 use mathlib.Core.Path.{◌≡◌, refl, sym, ap, ◌∙◌}
 use mathlib.Core.Bool.{Bool, true, false}
 use mathlib.Core.List.{List, [], ◌∷◌}
-use mathlib.Core.Option.{Option, some, none}
+use Rattle.std.specs.Prelude.{Option, Some, None}
 use native.Mathlib.Omega.{arith}
 use borrow.Author.Tests.{le-ltb, eq-eqb, ne_eqb}
 use lib.ListN.{length, get_or, set, replicate, length-set}
@@ -31,31 +31,30 @@ pub known_configured : (g : Config) (id : ℕ) → is_known g id ≡ configured 
 known_configured g id = by (slot_of id g) refl
   where
     by : (o : Option ℕ) → slot_of id g ≡ o → is_some o ≡ configured (config_of g) id
-    by none e = sym (ap is_some (not_listed g id e))
-    by (some i) e = sym (ap is_some (listed_at g id i e))
+    by None e = sym (ap is_some (not_listed g id e))
+    by (Some i) e = sym (ap is_some (listed_at g id i e))
 
 pub all_configured : (g : Config) (ids : List ℕ) → every (is_known g) ids ≡ every (configured (config_of g)) ids
-unfolding every
 all_configured g [] = refl
 all_configured g (id ∷ ids) = rw (known_configured g id, all_configured g ids)
 
 -- what a slot holds already is in its place
 there :
-    {A : Type 0} (key : A → ℕ) (f : SignerSlot → Option A) (keyed : (e : SignerSlot) (y : A) → f e ≡ some y → key y ≡ e.id) (x : A) (t : SignerSlot)
-    (es : List SignerSlot) → f t ≡ some x → Rising es → In t es → insert_by key x (collect f es) ≡ collect f es
+    {A : Type 0} (key : A → ℕ) (f : SignerSlot → Option A) (keyed : (e : SignerSlot) (y : A) → f e ≡ Some y → key y ≡ e.id) (x : A) (t : SignerSlot)
+    (es : List SignerSlot) → f t ≡ Some x → Rising es → In t es → insert_by key x (collect f es) ≡ collect f es
 unfolding collect with_some insert_by
 there key f keyed x t (e ∷ es) s a here = rw (s, le-ltb (key x) (key x) (omega arith), eq-eqb (key x) (key x) refl)
 there {A} key f keyed x t (e ∷ es) s a (later i) =
     by (f e) refl (in_all (λ (z : SignerSlot). e.id < z.id) i a.0) (there key f keyed x t es s a.1 i)
   where
     by : (o : Option A) → f e ≡ o → e.id < t.id → insert_by key x (collect f es) ≡ collect f es → insert_by key x (with_some o (collect f es)) ≡ with_some o (collect f es)
-    by none q l r = r
-    by (some y) q l r =
+    by None q l r = r
+    by (Some y) q l r =
         let m : key y < key x = omega (arith, keyed e y q, keyed t x s) in
         rw (le-ltb (key x) (key y) (omega arith), ne_eqb (key x) (key y) (λ p. omega arith), r)
 there {A = A} key f keyed x t [] s a x4 = elim x4 [ ]
 
-flagged-id : (flags : List Bool) (e : SignerSlot) (y : ℕ) → flagged_in flags e ≡ some y → y ≡ e.id
+flagged-id : (flags : List Bool) (e : SignerSlot) (y : ℕ) → flagged_in flags e ≡ Some y → y ≡ e.id
 flagged-id flags e y h = sym (when_some (get_or flags e.slot false) e.id y h)
 
 -- a flag that is set already
@@ -65,7 +64,7 @@ set_again (x ∷ xs) zero b = ap (λ (y : Bool). y ∷ xs) (sym b)
 set_again (x ∷ xs) (suc i) b = ap (λ (ys : List Bool). x ∷ ys) (set_again xs i b)
 
 -- the flag of a signer's slot set: the signer is in its place
-module _ (g : Config) (id i : ℕ) (found : slot_of id g ≡ some i) (flags : List Bool) (low : i < length flags) where
+module _ (g : Config) (id i : ℕ) (found : slot_of id g ≡ Some i) (flags : List Bool) (low : i < length flags) where
   set_one : collect (flagged_in (set flags i true)) (slots_of g) ≡ insert id (collect (flagged_in flags) (slots_of g))
   set_one = by (get_or flags i false) refl
     where
@@ -88,17 +87,17 @@ length-flags g [] = refl
 length-flags g (id ∷ ids) = by (slot_of id g) (length-flags g ids)
   where
     by : (o : Option ℕ) → length (flags_of g ids) ≡ signer_limit → length (flag_at o (flags_of g ids)) ≡ signer_limit
-    by none h = h
-    by (some i) h = rw length-set h
+    by None h = h
+    by (Some i) h = rw length-set h
 
 pub flags-collect : (g : Config) (ids : List ℕ) → g.count ≤ signer_limit → every (is_known g) ids ≡ true → collect (flagged_in (flags_of g ids)) (slots_of g) ≡ insert_all ids []
-unfolding every flags_of flag_at insert_all
+unfolding flags_of flag_at insert_all
 flags-collect g [] few k = collect_none (flagged_in (replicate signer_limit false)) (slots_of g) (λ e. rw (get_d_same signer_limit e.slot false))
 flags-collect g (id ∷ ids) few k =
     by (slot_of id g) refl (and_left (is_known g id) (every (is_known g) ids) k) (flags-collect g ids few (and_right (is_known g id) (every (is_known g) ids) k))
   where
     by : (o : Option ℕ) → slot_of id g ≡ o → is_some o ≡ true → collect (flagged_in (flags_of g ids)) (slots_of g) ≡ insert_all ids []
         → collect (flagged_in (flag_at o (flags_of g ids))) (slots_of g) ≡ insert id (insert_all ids [])
-    by none e n r = let z : ◌≡◌ {A = ℕ} 0 1 = cc in let f : ⊥ = omega arith in absurd f
-    by (some i) e n r =
+    by None e n r = let z : ◌≡◌ {A = ℕ} 0 1 = cc in let f : ⊥ = omega arith in absurd f
+    by (Some i) e n r =
         set_one g id i e (flags_of g ids) (omega (arith, slot_low g id i e, length-flags g ids)) ∙ ap (insert id) r

@@ -1,5 +1,6 @@
 -- Taking results gives what the step says of what the struct and the store stand for.
 -- Assumes nothing.
+use Rattle.std.specs.Prelude.{Err, Ok}
 use Prim.Native.Nat.{ℕ}
 use mathlib.Core.Path.{◌≡◌, refl, ◌∙◌}
 use mathlib.Core.Bool.{Bool, true, false, cond, ◌&&◌}
@@ -15,7 +16,6 @@ use Rattle.step_definition.specs.Phases.{phase_of, is_idle}
 use Rattle.step_definition.specs.Questions.{asks, question24, question25}
 use Rattle.step_definition.specs.Starts.{ask}
 use Rattle.step_definition.specs.Step.{on_results, own, step_of, step}
-use Rattle.state.specs.declared.answers.Passed.TheVariants.{Yes, No}
 use Rattle.state.specs.declared.fields.Coordinator.{Coordinator}
 use Rattle.state.specs.Counts.{is_within_limits}
 use Rattle.state.specs.View.{view, coordinator_of, standing_of, round_of, position_of}
@@ -30,7 +30,7 @@ use Rattle.results.proofs.Flags.{all_configured, flags-collect}
 chain :
     (s t : Coordinator) (store : List ℕ) (c d : Defined) (idle few known : Bool) → view s store ≡ commissioned c
     → (known ≡ true → view t store ≡ commissioned d)
-    → Refines (unless (cond idle (cond few (cond known Yes (No 25)) (No 25)) (No 24)) s store (turn A.plain t store))
+    → Refines (unless (cond idle (cond few (cond known (Ok tt) (Err 25)) (Err 25)) (Err 24)) s store (turn A.plain t store))
     (ask idle (A.failing 24 [] c) (ask (few && known) (A.failing 25 [] c) (A.quiet d)))
 unfolding unless
 chain s t store c d true true true e f = record { answer = refl; events = refl; after = f refl }

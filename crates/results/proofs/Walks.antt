@@ -1,51 +1,55 @@
--- The number of Idle, and walks over the ids: a test of each, and the flags of those from one on.
+-- The number of Idle, the flags of the ids set one by one, and how many live signers there are.
 -- Assumes nothing.
-use Prim.Native.Nat.{ℕ, ◌+◌, ◌<◌, ◌≤◌}
+use Prim.Native.Nat.{ℕ, ◌≤◌}
 use mathlib.Core.Path.{◌≡◌, refl}
-use mathlib.Core.Bool.{Bool, true, ◌&&◌}
-use mathlib.Core.List.{List}
-use native.Mathlib.Numerals.{add-one}
+use mathlib.Core.Bool.{false}
+use mathlib.Core.List.{List, [], ◌∷◌}
+use native.Mathlib.Omega.{arith}
 use lib.Dec.{eqb}
-use lib.ListN.{length, get_or, drop, drop_of_length-le}
-use lib.Seq.{drop-cons}
-use Rattle.wire.specs.Bytes.{every}
+use lib.ListN.{length, replicate, length-map, length-take}
+use Rattle.std.specs.List.{fold}
+use Rattle.std.specs.Prelude.{reverse}
+use Rattle.std.proofs.lemmas.Grind.{reverse_onto}
+use Rattle.std.proofs.lemmas.List.Sums.{fold-append}
+use Rattle.layout.specs.Limits.{signer_limit}
 use Rattle.state_table.specs.declared.State.{State}
 use Rattle.state_table.specs.declared.State.TheVariants.{Idle, DkgPublicDistribute, DkgPublicGather, DkgPublicSharesDoneDistribute, DkgPublicSharesDoneGather, DkgPrivateDistribute, DkgPrivateGather, DkgPrivateSharesDoneDistribute, DkgPrivateSharesDoneGather, DkgEndDistribute, DkgEndGather, NonceRequest, NonceGather, SigShareRequest, SigShareGather}
 use Rattle.state_table.specs.States.{state_number}
 use Rattle.step_definition.specs.Phases.{phase_of, is_idle}
 use Rattle.state.specs.declared.fields.Config.{Config}
 use Rattle.records.specs.Admits.{slot_of}
-use Rattle.results.specs.Results.{flag_at, flags_of}
+use Rattle.state.specs.declared.fields.Marks.{Marks}
+use Rattle.state.specs.Counts.{entries}
+use Rattle.state.specs.View.{ids_of}
+use Rattle.results.specs.Results.{flags_of, flagged, ended_marks}
 
 -- Idle has the number 0
-pub idle-number : (s : State) → is_idle (phase_of s) ≡ eqb (state_number s) 0
-idle-number Idle = refl
-idle-number DkgPublicDistribute = refl
-idle-number DkgPublicGather = refl
-idle-number DkgPublicSharesDoneDistribute = refl
-idle-number DkgPublicSharesDoneGather = refl
-idle-number DkgPrivateDistribute = refl
-idle-number DkgPrivateGather = refl
-idle-number DkgPrivateSharesDoneDistribute = refl
-idle-number DkgPrivateSharesDoneGather = refl
-idle-number DkgEndDistribute = refl
-idle-number DkgEndGather = refl
-idle-number (NonceRequest t) = refl
-idle-number (NonceGather t) = refl
-idle-number (SigShareRequest t) = refl
-idle-number (SigShareGather t) = refl
+pub idle_number : (s : State) → is_idle (phase_of s) ≡ eqb (state_number s) 0
+idle_number Idle = refl
+idle_number DkgPublicDistribute = refl
+idle_number DkgPublicGather = refl
+idle_number DkgPublicSharesDoneDistribute = refl
+idle_number DkgPublicSharesDoneGather = refl
+idle_number DkgPrivateDistribute = refl
+idle_number DkgPrivateGather = refl
+idle_number DkgPrivateSharesDoneDistribute = refl
+idle_number DkgPrivateSharesDoneGather = refl
+idle_number DkgEndDistribute = refl
+idle_number DkgEndGather = refl
+idle_number (NonceRequest t) = refl
+idle_number (NonceGather t) = refl
+idle_number (SigShareRequest t) = refl
+idle_number (SigShareGather t) = refl
 
--- the test of the id at i gives b: what is left goes on
-module _ (f : ℕ → Bool) (xs : List ℕ) (i : ℕ) where
-  pub known_turn : {t : Bool} (b : Bool) → i < length xs → b ≡ f (get_or xs i 0) → every f (drop i xs) ≡ t → b && every f (drop (i + 1) xs) ≡ t
-  unfolding every
-  known_turn b h e t = rw (add-one, e) (rw (drop-cons xs i 0 h) at t)
-
-  pub known_done : {t : Bool} → length xs ≤ i → every f (drop i xs) ≡ t → true ≡ t
-  unfolding every
-  known_done h t = rw (drop_of_length-le xs h) at t
-
--- one id more, before those whose flags are set
-pub flags-turn : (g : Config) (xs : List ℕ) (k : ℕ) → k < length xs → flags_of g (drop k xs) ≡ flag_at (slot_of (get_or xs k 0) g) (flags_of g (drop (k + 1) xs))
+-- the flags set from the last id on
+pub flags_folded : (g : Config) (old : Marks) (ids : List ℕ)
+    → fold (λ (m : Marks) (id : ℕ). flagged (slot_of id g) m) (record { ended = replicate signer_limit false; malicious = old.malicious }) (reverse ids)
+    ≡ ended_marks g ids old
 unfolding flags_of
-flags-turn g xs k h = rw (add-one, drop-cons xs k 0 h)
+flags_folded g old [] = refl
+flags_folded g old (id ∷ ids) = rw (reverse_onto ids id [], fold-append, flags_folded g old ids)
+
+-- no more live signers than places
+pub ids_few : (g : Config) → length (ids_of g) ≤ length g.signers
+unfolding entries
+ids_few g = rw (length-map, length-take) (omega arith)

@@ -1,18 +1,16 @@
 -- Key generation's results: the dkg id is replaced, and the flags of the signers that ended are exactly those of the ids that are named.
-use Rattle.std.specs.Prelude.{ℕ, Bool, true, false, cond, List, [], ◌∷◌, leb, length, set, replicate}
-use Rattle.std.proofs.Math.Option.{Option, some, none}
+use Rattle.std.specs.Prelude.{Option, Some, None, Err, Ok, ℕ, Bool, true, false, cond, List, [], ◌∷◌, leb, length, set, replicate}
 use Rattle.wire.specs.Bytes.{every}
 use Rattle.layout.specs.Limits.{signer_limit}
 use Rattle.step_definition.specs.Calls as A
 use Rattle.step_definition.specs.Lists.{is_some}
 use Rattle.step_definition.specs.Phases.{phase_of, is_idle}
-use Rattle.state.specs.declared.answers.Passed.{Passed}
-use Rattle.state.specs.declared.answers.Passed.TheVariants.{Yes, No}
 use Rattle.state.specs.declared.fields.Config.{Config}
 use Rattle.state.specs.declared.fields.Marks.{Marks}
 use Rattle.state.specs.declared.fields.Coordinator.{Coordinator}
 use Rattle.state.specs.Setters.{set_ids, set_marks}
 use Rattle.state.specs.Turns.{Turn, turn, asked, unless}
+use Rattle.state.specs.Passed.{Passed}
 use Rattle.records.specs.Admits.{slot_of}
 use Rattle.calls.specs.Calls.{asking_no_job}
 
@@ -22,8 +20,8 @@ is_known g id = is_some (slot_of id g)
 
 -- the flag of a slot set, where there is one
 unfoldable pub flag_at : Option ℕ → List Bool → List Bool
-flag_at none flags = flags
-flag_at (some i) flags = set flags i true
+flag_at None flags = flags
+flag_at (Some i) flags = set flags i true
 
 -- no flag but those of the ids' slots
 unfoldable pub flags_of : Config → List ℕ → List Bool
@@ -40,8 +38,8 @@ ended_marks g ended old = record { ended = flags_of g ended; malicious = old.mal
 unfoldable pub results_asked : List ℕ → Coordinator → Passed
 results_asked ended s =
     cond (is_idle (phase_of s.position.state))
-    (cond (leb (length ended) signer_limit) (cond (every (is_known s.config) ended) Yes (No 25)) (No 25))
-    (No 24)
+    (cond (leb (length ended) signer_limit) (cond (every (is_known s.config) ended) (Ok tt) (Err 25)) (Err 25))
+    (Err 24)
 
 unfoldable pub with_results : ℕ → List ℕ → Coordinator → Coordinator
 with_results dkg ended s =

@@ -3,6 +3,7 @@
 #![tactic(auto)]
 
 ghost use Rattle.std.specs.Prelude.{◌+◌, ◌≤◌, ◌≡◌, [], leb, length, take, drop};
+ghost use Rattle.std.specs.Result.{result_unwrap_or};
 ghost use Rattle.layout.specs.Decode.{decode};
 ghost use Rattle.parts.specs.Parts.{part_in};
 ghost use Rattle.packet_in_hand.specs.InHand.{counted};
@@ -223,9 +224,9 @@ pub extern "C" fn rc_read_packet(packet: &[u8]) -> RcPacket
 // A part lies inside its packet, whatever the bytes.
 #[unsafe(no_mangle)]
 pub extern "C" fn rc_packet_part(packet: &[u8], i: u16) -> RcPart
-    ensures { (result ≡ place_in packet.now (counted (decode packet.now)).pairs i)
+    ensures { (result ≡ place_in packet.now (result_unwrap_or (counted (decode packet.now)) 0) i)
         × (take result.length (drop result.at packet.now)
-        ≡ part_in packet.now (counted (decode packet.now)).pairs i)
+        ≡ part_in packet.now (result_unwrap_or (counted (decode packet.now)) 0) i)
         × (result.at + result.length ≤ length packet.now) }
 {
     library_reader::packet_part(packet, i)

@@ -1,5 +1,5 @@
 // Whether a save left bytes: only flags, codes and constants can be other than a save leaves them, so only these are looked at.
-#![tactic(auto)]
+#![tactic(auto, unfolding(state_bytes::specs::Description::description))]
 
 pub mod states;
 pub mod strides;

@@ -1,15 +1,12 @@
-// Flags and readings, one and many.
-ghost use Rattle.std.specs.Prelude.{◌≤◌, ◌+◌, ◌*◌, ◌≡◌, ◌&&◌};
-ghost use Rattle.form.specs.Form.{flag, constant, every_at};
+// Flags, readings and constants, and arrays.
+ghost use Rattle.std.specs.Prelude.{◌<◌, ◌^◌, ◌+◌, ◌*◌, ◌≡◌};
+ghost use Rattle.form.specs.Form.{flag, constant, each};
 ghost use Rattle.state_bytes.specs.Description.{reading_form};
 
-use state_bytes::{NANOSECONDS, READING_BYTES};
-
-pub fn both(a: bool, b: bool) -> bool
-    ensures { result ≡ (a && b) }
-{
-    if a { b } else { false }
-}
+use layout::SIGNER_LIMIT;
+use loading_arrays::arrays::Element;
+use state::fields::{ResponseSlot, ShareSlot, SignRoundInfo, SignerEntry};
+use state_bytes::{HAS_KEYS, NANOSECONDS, SLOTS, WAITS};
 
 pub fn is_flag(s: &[u8], at: usize) -> bool
     ensures { result ≡ flag.left s.now at }
@@ -24,49 +21,64 @@ pub fn stands<'a>(s: &'a [u8], at: usize, bytes: &'a [u8]) -> bool
     wire::same(bytes, wire::part(s, at, bytes.len()))
 }
 
-// n flags, each `stride` bytes after the one before it.
-pub fn are_flags(s: &[u8], at: usize, stride: usize, n: usize) -> bool
-    requires { (stride ≤ 1024) × (at + 1024 * n ≤ 32768) }
-    ensures { result ≡ every_at flag.left stride s.now at n }
-{
-    let mut place = at;
-    let mut rest = n;
-    while rest > 0 {
-        if !is_flag(s, place) {
-            return false;
-        }
-        place += stride;
-        rest -= 1;
-    }
-    true
-}
-
 // A reading is there, or its number is 0.
-fn is_reading(s: &[u8], at: usize) -> bool
-    requires { at ≤ 8192 }
+pub fn is_reading(s: &[u8], at: usize) -> bool
+    requires { at + reading_form.width < 2 ^ 64 }
     ensures { result ≡ reading_form.left s.now at }
 {
-    let given = wire::byte(s, at);
-    if given == 1 {
-        return true;
+    match wire::byte(s, at) {
+        0 => wire::u64_at(s, at + NANOSECONDS) == 0,
+        1 => true,
+        _ => false,
     }
-    let nanoseconds = wire::u64_at(s, at + NANOSECONDS);
-    both(given == 0, nanoseconds == 0)
 }
 
-// n readings, one after the other.
-pub fn are_readings(s: &[u8], at: usize, n: usize) -> bool
-    requires { at + 16 * n ≤ 8192 }
-    ensures { result ≡ every_at reading_form.left reading_form.width s.now at n }
+// A value that stands in an array, and whether a save left its bytes: what can be any number is not looked at.
+pub trait Tested: Element {
+    fn is_left(s: &[u8], at: usize) -> bool
+        requires { at + Self.form.width < 2 ^ 64 }
+        ensures { result ≡ Self.form.left s.now at };
+}
+
+// Whether a save left n elements, one after the other.
+pub fn are_left<T: Tested>(s: &[u8], at: usize, n: usize) -> bool
+    requires { at + T.form.width * n < 2 ^ 64 }
+    ensures { result ≡ (each n T.form).left s.now at }
 {
-    let mut place = at;
-    let mut rest = n;
-    while rest > 0 {
-        if !is_reading(s, place) {
+    for i in 0..n {
+        if !T::is_left(s, at + T::width() * i) {
             return false;
         }
-        place += READING_BYTES;
-        rest -= 1;
     }
     true
+}
+
+impl Tested for bool {
+    fn is_left(s: &[u8], at: usize) -> bool {
+        is_flag(s, at)
+    }
+}
+
+impl Tested for SignerEntry {
+    fn is_left(s: &[u8], at: usize) -> bool {
+        is_flag(s, at + HAS_KEYS)
+    }
+}
+
+impl Tested for ResponseSlot {
+    fn is_left(s: &[u8], at: usize) -> bool {
+        is_flag(s, at) && is_flag(s, at + WAITS)
+    }
+}
+
+impl Tested for SignRoundInfo {
+    fn is_left(s: &[u8], at: usize) -> bool {
+        are_left::<ResponseSlot>(s, at + SLOTS, SIGNER_LIMIT)
+    }
+}
+
+impl Tested for ShareSlot {
+    fn is_left(s: &[u8], at: usize) -> bool {
+        is_flag(s, at)
+    }
 }

@@ -1,11 +1,10 @@
 // Arrays, written element by element, and the structs that hold them.
-ghost use Rattle.std.specs.Prelude.{◌≤◌, ◌≡◌};
+ghost use Rattle.std.specs.Prelude.{◌<◌, ◌^◌, ◌+◌, ◌*◌, ◌≡◌, length};
 ghost use Rattle.wire.specs.Bytes.{put};
-ghost use Rattle.layout.specs.Limits.{list_limit, signer_limit, record_limit};
-ghost use Rattle.form.specs.Form.{flag, each};
+ghost use Rattle.form.specs.Form.{Form, flag, saved_each};
 ghost use Rattle.state_bytes.specs.Description.{key_form, signer_form, slot_form, row_form, records_form, share_form, marks_form};
 
-use layout::{KeyId, LIST_LIMIT, RECORD_LIMIT, SIGNER_LIMIT};
+use layout::KeyId;
 use saving_fields::fields;
 use state::fields::{Marks, Records, ResponseSlot, ShareSlot, SignRoundInfo, SignerEntry};
 use state_bytes::{
@@ -13,124 +12,122 @@ use state_bytes::{
     ROW_COUNT, SHARE_BYTES, SHARE_COUNT, SIGNER_BYTES, SLOT_BYTES, SLOTS,
 };
 
-fn put_key_ids(out: &mut [u8], at: usize, ids: [KeyId; LIST_LIMIT])
-    requires { at ≤ 8192 }
-    ensures { out.new ≡ put out.old at ((each list_limit key_form).save ids) }
+// A value that stands in an array: its form, how many bytes that takes, and how they are written.
+pub trait Element {
+    ghost form: { Form Self };
+
+    fn width() -> usize
+        ensures { result ≡ form.width };
+
+    fn put(&self, out: &mut [u8], at: usize)
+        requires { at + form.width < 2 ^ 64 }
+        ensures written { out.new ≡ put out.old at (form.save self.now) }
+        ensures long { length (form.save self.now) ≡ form.width };
+}
+
+// The elements, one after the other.
+pub fn put_each<T: Element>(out: &mut [u8], at: usize, items: &[T])
+    requires { at + T.form.width * length items.now < 2 ^ 64 }
+    ensures written { out.new ≡ put out.old at (saved_each T.form.save items.now) }
+    ensures long { length (saved_each T.form.save items.now) ≡ T.form.width * length items.now }
 {
-    let mut i: usize = 0;
-    while i < LIST_LIMIT {
-        let key = ids[i];
-        wire::put_number(out, at + KEY_BYTES * i, KEY_BYTES, key.0 as u64);
-        i += 1;
+    for (i, x) in items.iter().enumerate() {
+        x.put(out, at + T::width() * i);
     }
 }
 
-fn put_signer(out: &mut [u8], at: usize, e: SignerEntry)
-    requires { at ≤ 8000 }
-    ensures { out.new ≡ put out.old at (signer_form.save e) }
-{
-    let id = e.id;
-    let keys = e.keys;
-    let ids = keys.ids;
-    wire::put_number(out, at, FOUR, id.0 as u64);
-    fields::put_flag(out, at + HAS_KEYS, e.has_keys);
-    put_key_ids(out, at + KEY_IDS, ids);
-    wire::put_number(out, at + KEY_COUNT, EIGHT, keys.count as u64);
-}
+impl Element for bool {
+    ghost form = { flag };
 
-pub fn put_signers(out: &mut [u8], at: usize, signers: [SignerEntry; SIGNER_LIMIT])
-    requires { at ≤ 4096 }
-    ensures { out.new ≡ put out.old at ((each signer_limit signer_form).save signers) }
-{
-    let mut i: usize = 0;
-    while i < SIGNER_LIMIT {
-        let e = signers[i];
-        put_signer(out, at + SIGNER_BYTES * i, e);
-        i += 1;
+    fn width() -> usize {
+        ONE
+    }
+
+    fn put(&self, out: &mut [u8], at: usize) {
+        fields::put_flag(out, at, *self);
     }
 }
 
-fn put_slots(out: &mut [u8], at: usize, slots: [ResponseSlot; SIGNER_LIMIT])
-    requires { at ≤ 7000 }
-    ensures { out.new ≡ put out.old at ((each signer_limit slot_form).save slots) }
-{
-    let mut i: usize = 0;
-    while i < SIGNER_LIMIT {
-        let slot = slots[i];
-        fields::put_slot(out, at + SLOT_BYTES * i, slot);
-        i += 1;
+impl Element for KeyId {
+    ghost form = { key_form };
+
+    fn width() -> usize {
+        KEY_BYTES
+    }
+
+    fn put(&self, out: &mut [u8], at: usize) {
+        wire::put_number(out, at, KEY_BYTES, self.0 as u64);
     }
 }
 
-fn put_row(out: &mut [u8], at: usize, r: SignRoundInfo)
-    requires { at ≤ 6000 }
-    ensures { out.new ≡ put out.old at (row_form.save r) }
-{
-    let slots = r.slots;
-    wire::put_number(out, at, EIGHT, r.message as u64);
-    put_slots(out, at + SLOTS, slots);
-}
+impl Element for SignerEntry {
+    ghost form = { signer_form };
 
-fn put_rows(out: &mut [u8], at: usize, rows: [SignRoundInfo; RECORD_LIMIT])
-    requires { at ≤ 4096 }
-    ensures { out.new ≡ put out.old at ((each record_limit row_form).save rows) }
-{
-    let mut i: usize = 0;
-    while i < RECORD_LIMIT {
-        let row = rows[i];
-        put_row(out, at + ROW_BYTES * i, row);
-        i += 1;
+    fn width() -> usize {
+        SIGNER_BYTES
+    }
+
+    fn put(&self, out: &mut [u8], at: usize) {
+        wire::put_number(out, at, FOUR, self.id.0 as u64);
+        fields::put_flag(out, at + HAS_KEYS, self.has_keys);
+        put_each(out, at + KEY_IDS, &self.keys.ids);
+        wire::put_number(out, at + KEY_COUNT, EIGHT, self.keys.count as u64);
     }
 }
 
-pub fn put_records(out: &mut [u8], at: usize, r: Records)
-    requires { at ≤ 4096 }
-    ensures { out.new ≡ put out.old at (records_form.save r) }
+impl Element for ResponseSlot {
+    ghost form = { slot_form };
+
+    fn width() -> usize {
+        SLOT_BYTES
+    }
+
+    fn put(&self, out: &mut [u8], at: usize) {
+        fields::put_slot(out, at, self);
+    }
+}
+
+impl Element for SignRoundInfo {
+    ghost form = { row_form };
+
+    fn width() -> usize {
+        ROW_BYTES
+    }
+
+    fn put(&self, out: &mut [u8], at: usize) {
+        wire::put_number(out, at, EIGHT, self.message as u64);
+        put_each(out, at + SLOTS, &self.slots);
+    }
+}
+
+impl Element for ShareSlot {
+    ghost form = { share_form };
+
+    fn width() -> usize {
+        SHARE_BYTES
+    }
+
+    fn put(&self, out: &mut [u8], at: usize) {
+        fields::put_flag(out, at, self.held);
+        wire::put_number(out, at + SHARE_COUNT, EIGHT, self.count as u64);
+        wire::copy(out, at + KEY_COUNTS, &self.key_counts);
+    }
+}
+
+pub fn put_records(out: &mut [u8], at: usize, r: &Records)
+    requires { at + records_form.width < 2 ^ 64 }
+    ensures written { out.new ≡ put out.old at (records_form.save r.now) }
+    ensures long { length (records_form.save r.now) ≡ records_form.width }
 {
-    let rows = r.rows;
-    put_rows(out, at, rows);
+    put_each(out, at, &r.rows);
     wire::put_number(out, at + ROW_COUNT, EIGHT, r.count as u64);
 }
 
-fn put_share_slot(out: &mut [u8], at: usize, h: ShareSlot)
-    requires { at ≤ 8000 }
-    ensures { out.new ≡ put out.old at (share_form.save h) }
+pub fn put_marks(out: &mut [u8], at: usize, m: &Marks)
+    requires { at + marks_form.width < 2 ^ 64 }
+    ensures written { out.new ≡ put out.old at (marks_form.save m.now) }
+    ensures long { length (marks_form.save m.now) ≡ marks_form.width }
 {
-    let key_counts = h.key_counts;
-    fields::put_flag(out, at, h.held);
-    wire::put_number(out, at + SHARE_COUNT, EIGHT, h.count as u64);
-    wire::copy(out, at + KEY_COUNTS, &key_counts);
-}
-
-pub fn put_shares(out: &mut [u8], at: usize, slots: [ShareSlot; SIGNER_LIMIT])
-    requires { at ≤ 4096 }
-    ensures { out.new ≡ put out.old at ((each signer_limit share_form).save slots) }
-{
-    let mut i: usize = 0;
-    while i < SIGNER_LIMIT {
-        let slot = slots[i];
-        put_share_slot(out, at + SHARE_BYTES * i, slot);
-        i += 1;
-    }
-}
-
-fn put_flags(out: &mut [u8], at: usize, flags: [bool; SIGNER_LIMIT])
-    requires { at ≤ 8000 }
-    ensures { out.new ≡ put out.old at ((each signer_limit flag).save flags) }
-{
-    let mut i: usize = 0;
-    while i < SIGNER_LIMIT {
-        fields::put_flag(out, at + ONE * i, flags[i]);
-        i += 1;
-    }
-}
-
-pub fn put_marks(out: &mut [u8], at: usize, m: Marks)
-    requires { at ≤ 4096 }
-    ensures { out.new ≡ put out.old at (marks_form.save m) }
-{
-    let ended = m.ended;
-    let malicious = m.malicious;
-    put_flags(out, at, ended);
-    put_flags(out, at + MALICIOUS, malicious);
+    put_each(out, at, &m.ended);
+    put_each(out, at + MALICIOUS, &m.malicious);
 }

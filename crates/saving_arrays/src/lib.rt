@@ -1,4 +1,4 @@
 // The coordinator's arrays saved as bytes, one element after the other.
-#![tactic(auto)]
+#![tactic(auto, unfolding(state_bytes::specs::Description::description))]
 
 pub mod arrays;

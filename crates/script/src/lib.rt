@@ -2,6 +2,7 @@
 #![tactic(auto)]
 
 pub mod cases;
+pub mod faults;
 pub mod lines;
 pub mod print;
 pub mod states;

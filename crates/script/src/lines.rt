@@ -1,5 +1,5 @@
 // The script's lines, put together from the pieces in which it is read.
-ghost use Rattle.std.specs.Prelude.{◌<◌, ◌≤◌, length};
+ghost use Rattle.std.specs.Prelude.{◌≤◌, length};
 
 use crate::print;
 use std::io::Read;
@@ -11,7 +11,8 @@ pub const PIECE_LENGTH: usize = 4096;
 
 pub const PIECES: u64 = 0x1_0000_0000;
 
-// Reads until the piece is full, the input ends or a read fails: how many bytes the piece has then.
+// Reads until the piece is full, the input ends or a read fails: how many bytes the piece has then. A `while`, because each read says
+// how far it came.
 pub fn read_full(reader: &mut impl Read, piece: &mut [u8; PIECE_LENGTH]) -> usize
     ensures { result ≤ length piece.new }
 {
@@ -26,28 +27,9 @@ pub fn read_full(reader: &mut impl Read, piece: &mut [u8; PIECE_LENGTH]) -> usiz
     done
 }
 
-// The place after the first b from `from` on, or the end.
-pub fn after(s: &[u8], from: usize, b: u8) -> usize
-    ensures { from < length s.now → from < result }
-{
-    let mut i = from;
-    while i < s.len() {
-        if s[i] == b {
-            return i + 1;
-        }
-        i += 1;
-    }
-    i
-}
-
-// a - b, 0 where b is more.
-pub fn less(a: usize, b: usize) -> usize {
-    if b < a { a - b } else { 0 }
-}
-
 // The bytes from a up to b, as many of them as there are.
 pub fn from_to(s: &[u8], a: usize, b: usize) -> &[u8] {
-    wire::part(s, a, less(b, a))
+    wire::part(s, a, b.saturating_sub(a))
 }
 
 // A line as far as it is read: how many of its bytes are kept, whether there are more, and whether its newline has come.
@@ -58,47 +40,32 @@ pub struct Line {
     pub ended: bool,
 }
 
-pub fn empty() -> Line {
-    Line {
-        len: 0,
-        long: false,
-        ended: false,
+impl Line {
+    pub fn empty() -> Line {
+        Line {
+            len: 0,
+            long: false,
+            ended: false,
+        }
     }
-}
 
-// More bytes of a line; what finds no room is not kept.
-pub fn longer(line: Line, more: &[u8], ended: bool, kept: &mut [u8; LINE_LENGTH]) -> Line {
-    let at = line.len;
-    let room = less(LINE_LENGTH, at);
-    wire::copy(kept, at, more);
-    Line {
-        len: if room < more.len() {
-            LINE_LENGTH
-        } else {
-            std::num::wrapping_add_usize(at, more.len())
-        },
-        long: line.long || room < more.len(),
-        ended,
+    // With the next bytes of a piece, of which the last is the newline where the line ends. What finds no room is not kept.
+    pub fn gather(self, part: &[u8], kept: &mut [u8; LINE_LENGTH]) -> Line {
+        let ended = part.last() == Some(&b'\n');
+        let more = if ended { &part[..part.len() - 1] } else { part };
+        let room = LINE_LENGTH.saturating_sub(self.len);
+        wire::copy(kept, self.len, more);
+        Line {
+            len: self.len.saturating_add(more.len().min(room)),
+            long: self.long || room < more.len(),
+            ended,
+        }
     }
-}
-
-// The bytes of a piece from `from` up to `to`, of which the last is the newline where the line ends.
-pub fn gather(
-    line: Line,
-    piece: &[u8],
-    from: usize,
-    to: usize,
-    kept: &mut [u8; LINE_LENGTH],
-) -> Line {
-    let last = less(to, 1);
-    let ended = wire::byte(piece, last) == b'\n';
-    let end = if ended { last } else { to };
-    longer(line, from_to(piece, from, end), ended, kept)
 }
 
 // After 2 ^ 44 bytes.
 pub fn finish(rt: &impl Print, ended: bool) {
     if !ended {
-        print::text(rt, b"not read: what follows 17592186044416 bytes\n");
+        print::text(rt, "not read: what follows 17592186044416 bytes\n");
     }
 }

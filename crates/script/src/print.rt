@@ -1,53 +1,43 @@
 // Text and numbers on standard output. A write that fails is passed over: what follows is tried all the same.
 
-pub fn text(rt: &impl Print, s: &[u8]) {
+pub fn text(rt: &impl Print, s: &str) {
+    let _ = print!(rt; "{s}");
+}
+
+// Bytes as they are, which need not be text.
+pub fn bytes(rt: &impl Print, s: &[u8]) {
     let _ = rt.write_all(s);
 }
 
-pub fn either(rt: &impl Print, b: bool, yes: &[u8], no: &[u8]) {
-    if b { text(rt, yes) } else { text(rt, no) }
+pub fn either(rt: &impl Print, b: bool, yes: &str, no: &str) {
+    text(rt, if b { yes } else { no })
 }
 
 // A name and a number.
-pub fn field(rt: &impl Print, name: &[u8], n: u64) {
-    text(rt, name);
-    let _ = rt.print(n);
+pub fn field(rt: &impl Print, name: &str, n: u64) {
+    let _ = print!(rt; "{name}{n}");
 }
 
 // A sum over bytes that tells their order: h * 31 + byte, by 2 ^ 32.
-pub fn sum_of(s: &[u8]) -> u64 {
-    let mut h: u64 = 0;
-    let mut i: usize = 0;
-    while i < s.len() {
-        h = (h * 31 + (wire::byte(s, i) as u64)) % 0x1_0000_0000;
-        i += 1;
-    }
-    h
+pub fn sum_of(s: &[u8]) -> u32 {
+    s.iter()
+        .fold(0u32, |h, b| h.wrapping_mul(31).wrapping_add(*b as u32))
 }
 
-// Eight hexadecimal digits.
-pub fn number(rt: &impl Print, h: u64) {
+// As eight hexadecimal digits.
+pub fn sum(rt: &impl Print, s: &[u8]) {
+    let h = sum_of(s);
     let _ = print!(rt; "{h:08x}");
 }
 
-// Two of them.
+// As two hexadecimal digits.
 pub fn byte(rt: &impl Print, b: u8) {
     let _ = print!(rt; "{b:02x}");
 }
 
-pub fn sum(rt: &impl Print, s: &[u8]) {
-    number(rt, sum_of(s));
-}
-
-fn id(rt: &impl Print, n: u32) {
-    field(rt, b" ", n as u64);
-}
-
 // The numbers of four bytes each in s, each after a blank.
 pub fn ids(rt: &impl Print, s: &[u8]) {
-    let mut i: usize = 0;
-    while i < s.len() / layout::ID_LENGTH {
-        id(rt, wire::u32_at(s, layout::ID_LENGTH * i));
-        i += 1;
+    for id in s.chunks_exact(layout::ID_LENGTH) {
+        field(rt, " ", wire::u32_at(id, 0) as u64);
     }
 }

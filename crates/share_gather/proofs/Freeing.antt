@@ -4,7 +4,7 @@ use Prim.Native.Nat.{ℕ, ◌<◌}
 use mathlib.Core.Path.{◌≡◌, refl, sym, ◌∙◌}
 use mathlib.Core.Bool.{Bool, true, false, ◌&&◌}
 use mathlib.Core.List.{List}
-use mathlib.Core.Option.{some, none}
+use Rattle.std.specs.Prelude.{Some, None}
 use native.Mathlib.Nat.{zero-add}
 use native.Mathlib.Omega.{arith}
 use borrow.Author.Tests.{eqb-true, eqb-false, le-leb}
@@ -83,13 +83,13 @@ module _ (store : List ℕ) (r i : ℕ) (row : SignRoundInfo) (low : i < length 
   waits_other : (id : ℕ) (e : SignerSlot) → (e.slot ≡ i → e.id ≡ id) → (e.id ≡ id → ⊥) → waits_in (set row.slots i x) e ≡ waits_in row.slots e
   waits_other id e same ne = rw (get_or-set_other row.slots i e.slot x no_slot (λ p. ne (same p)))
 
-  waits_own : (e : SignerSlot) (y : ℕ) → waits_in row.slots e ≡ some y → y ≡ e.id
+  waits_own : (e : SignerSlot) (y : ℕ) → waits_in row.slots e ≡ Some y → y ≡ e.id
   waits_own e y h = sym (when_some ((get_or row.slots e.slot no_slot).held && (get_or row.slots e.slot no_slot).waits) e.id y h)
 
-  waits_no_more : (id : ℕ) → waits_in (set row.slots i x) (signer_slot id i) ≡ none
+  waits_no_more : (id : ℕ) → waits_in (set row.slots i x) (signer_slot id i) ≡ None
   waits_no_more id = rw (get_or-set_same row.slots i x no_slot low, and_false (get_or row.slots i no_slot).held)
 
-  pub row_less : (ids : List ℕ) (id : ℕ) → slot_from id 0 ids ≡ some i → row_of (slots_from 0 ids) store r (set_slot i x row) ≡ C.without_waiter id (row_of (slots_from 0 ids) store r row)
+  pub row_less : (ids : List ℕ) (id : ℕ) → slot_from id 0 ids ≡ Some i → row_of (slots_from 0 ids) store r (set_slot i x row) ≡ C.without_waiter id (row_of (slots_from 0 ids) store r row)
   unfolding row_of
   row_less ids id found =
       let es = slots_from 0 ids in

@@ -1,5 +1,6 @@
 -- SigShareGather on a response gives what the definition says of what the struct and the store stand for.
 -- Assumes nothing.
+use Rattle.std.specs.Prelude.{Some}
 use Prim.Native.Nat.{ℕ}
 use mathlib.Core.Path.{◌≡◌, refl, ap, subst, ◌∙◌}
 use mathlib.Core.Bool.{true}
@@ -9,7 +10,6 @@ use Rattle.layout.specs.declared.SignatureType.{SignatureType}
 use Rattle.layout.specs.LaidOut.{header_in}
 use Rattle.layout.specs.Messages.{SignatureShareResponse}
 use Rattle.layout.specs.Decode.{share_response_in}
-use Rattle.state_table.specs.declared.StateType.TheVariants.{Typed}
 use Rattle.state_table.specs.States.{type_in}
 use Rattle.step_definition.specs.Coordinator as C
 use Rattle.step_definition.specs.Effects.{freeing}
@@ -31,7 +31,7 @@ use Rattle.share_gather.proofs.Freeing.{freed_within, freed_shaped, freed_place,
 use Rattle.share_gather.proofs.Answering.{waiter_told, taking}
 
 module _ (t : SignatureType) (p : List ℕ) (s : Coordinator) (store : List ℕ) (shaped : Shaped s) (b : s.commissioned ≡ true)
-    (typed : type_in s.position.state ≡ Typed t) where
+    (typed : type_in s.position.state ≡ Some t) where
   abbrev c₀ : C.Coordinator
   c₀ = coordinator_of s store
 

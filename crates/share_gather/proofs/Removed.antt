@@ -4,7 +4,7 @@ use Prim.Native.Nat.{ℕ, zero, suc, ◌+◌, ◌<◌}
 use mathlib.Core.Path.{◌≡◌, refl, sym, ap}
 use mathlib.Core.Bool.{Bool, true, false, cond}
 use mathlib.Core.List.{List, [], ◌∷◌}
-use mathlib.Core.Option.{Option, some, none}
+use Rattle.std.specs.Prelude.{Option, Some, None}
 use native.Mathlib.Nat.{add-zero}
 use native.Mathlib.Omega.{arith}
 use borrow.Author.Tests.{eq-eqb, ne_eqb}
@@ -23,19 +23,19 @@ use Rattle.records.specs.Records.{row_message, record_from}
 use Rattle.records.proofs.AddRows.{index}
 
 -- each slot holds its own id, if any
-module _ (f : SignerSlot → Option ℕ) (own : (e : SignerSlot) (y : ℕ) → f e ≡ some y → y ≡ e.id) where
+module _ (f : SignerSlot → Option ℕ) (own : (e : SignerSlot) (y : ℕ) → f e ≡ Some y → y ≡ e.id) where
   remove_above : (id : ℕ) (es : List SignerSlot) → Above id es → remove id (collect f es) ≡ collect f es
   unfolding collect with_some remove
   remove_above id [] a = refl
   remove_above id (e ∷ es) a = by (f e) refl (remove_above id es a.1)
     where
       by : (o : Option ℕ) → f e ≡ o → remove id (collect f es) ≡ collect f es → remove id (with_some o (collect f es)) ≡ with_some o (collect f es)
-      by none q r = r
-      by (some y) q r = rw (ne_eqb id y (λ p. omega (arith, own e y q, a.0))) (ap (λ (l : List ℕ). y ∷ l) r)
+      by None q r = r
+      by (Some y) q r = rw (ne_eqb id y (λ p. omega (arith, own e y q, a.0))) (ap (λ (l : List ℕ). y ∷ l) r)
 
   -- one slot holds nothing any more, the others what they held
   pub collect-remove :
-      (f' : SignerSlot → Option ℕ) (t : SignerSlot) (es : List SignerSlot) → f' t ≡ none → Rising es → In t es
+      (f' : SignerSlot → Option ℕ) (t : SignerSlot) (es : List SignerSlot) → f' t ≡ None → Rising es → In t es
       → All (λ (e : SignerSlot). (e.id ≡ t.id → ⊥) → f' e ≡ f e) es → collect f' es ≡ remove t.id (collect f es)
   unfolding collect with_some remove
   collect-remove f' t [] n a x4 o = elim x4 [ ]
@@ -48,16 +48,16 @@ module _ (f : SignerSlot → Option ℕ) (own : (e : SignerSlot) (y : ℕ) → f
       others (d ∷ ds) b o = (o.0 (λ q. omega (arith, b.0)), others ds b.1 o.1)
 
       by : (o : Option ℕ) → f t ≡ o → remove t.id (collect f es) ≡ collect f es → collect f es ≡ remove t.id (with_some o (collect f es))
-      by none q r = sym r
-      by (some y) q r = rw (eq-eqb t.id y (sym (own t y q))) (sym r)
+      by None q r = sym r
+      by (Some y) q r = rw (eq-eqb t.id y (sym (own t y q))) (sym r)
   collect-remove f' t (e ∷ es) n a (later i) o =
       let below : e.id < t.id = in_all (λ (z : SignerSlot). e.id < z.id) i a.0 in
       let rest : collect f' es ≡ remove t.id (collect f es) = collect-remove f' t es n a.1 i o.1 in
       rw (o.0 (λ q. omega arith), rest) (by below (f e) refl)
     where
       by : e.id < t.id → (p : Option ℕ) → f e ≡ p → with_some p (remove t.id (collect f es)) ≡ remove t.id (with_some p (collect f es))
-      by l none q = refl
-      by l (some y) q = rw (ne_eqb t.id y (λ p. omega (arith, own e y q)))
+      by l None q = refl
+      by l (Some y) q = rw (ne_eqb t.id y (λ p. omega (arith, own e y q)))
 
 -- the record of the message, as it stands without the waiter
 module _ (es : List SignerSlot) (m store : List ℕ) (id : ℕ) (new : SignRoundInfo) where

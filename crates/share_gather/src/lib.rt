@@ -13,19 +13,12 @@ use state::answers::{Class, Done};
 use state::fields::Coordinator;
 
 // The record r waits no more for the signer in slot i.
-fn freed(s: Coordinator, r: usize, i: usize) -> Coordinator
+fn freed(mut s: Coordinator, r: usize, i: usize) -> Coordinator
     requires { (r < record_limit) × (i < signer_limit) }
     ensures { result ≡ freedOf r i s }
 {
-    let mut records = s.records;
-    let mut row = records.rows[r];
-    let mut slot = row.slots[i];
-    slot.waits = false;
-    row.slots[i] = slot;
-    records.rows[r] = row;
-    let mut t = s;
-    t.records = records;
-    t
+    s.records.rows[r].slots[i].waits = false;
+    s
 }
 
 // h is the packet's header.
@@ -41,8 +34,7 @@ pub fn gather_shares(
     ensures { Did (gather_shares_turn signature_type packet.now s store.old)
         out.old result store.new out.new }
 {
-    let verdict = share_verdicts::decide(s, store, packet, h);
-    match verdict {
+    match share_verdicts::decide(s, store, packet, h) {
         Verdict::Unawaited => answers::quiet(s),
         Verdict::Wrong(number, got, expected) => answers::mismatched(
             s,
@@ -51,14 +43,8 @@ pub fn gather_shares(
             got,
             expected,
         ),
-        Verdict::Refused(number, r, i) => {
-            let t = freed(s, r, i);
-            answers::blaming(t, number, h.signer_id)
-        }
-        Verdict::Unended(r, i) => {
-            let t = freed(s, r, i);
-            answers::quiet(t)
-        }
+        Verdict::Refused(number, r, i) => answers::blaming(freed(s, r, i), number, h.signer_id),
+        Verdict::Unended(r, i) => answers::quiet(freed(s, r, i)),
         Verdict::Good(r, i) => {
             let t = freed(s, r, i);
             share_taking::take_shares(t, store, out, signature_type, packet, h, r, i)

@@ -1,12 +1,11 @@
 -- What `request_sig_shares` asks of the writer, and what it did.
 -- Assumes nothing.
+use Rattle.std.specs.Prelude.{Ok}
 use Prim.Native.Nat.{ℕ}
 use mathlib.Core.Path.{◌≡◌}
 use mathlib.Core.List.{List}
 use Rattle.layout.specs.declared.SignatureType.{SignatureType}
-use Rattle.framing.specs.declared.Written.{Written}
-use Rattle.framing.specs.declared.Written.TheVariants.{Bytes}
-use Rattle.framing.specs.Writing.{Wrote, written}
+use Rattle.framing.specs.Writing.{Wrote, written, Written}
 use Rattle.state.specs.declared.answers.Class.TheVariants.{Packet}
 use Rattle.state.specs.declared.answers.Done.{Done}
 use Rattle.state.specs.declared.fields.Coordinator.{Coordinator}
@@ -25,6 +24,6 @@ module _ (clock : ℕ) (t : SignatureType) (m : List ℕ) (r : ℕ) (s after : C
 
   pub request_did :
       {d : Done} {n : ℕ} {out out' : List ℕ} {w : Written} (id : ℕ) (store : List ℕ) → d ≡ record { answer = sending_answer Packet n; after = after }
-      → Wrote (written (request_bytes after store r m t)) out w out' → w ≡ Bytes n → Did (share_request_turn clock t id m r s store) out d store out'
+      → Wrote (written (request_bytes after store r m t)) out w out' → w ≡ Ok n → Did (share_request_turn clock t id m r s store) out d store out'
   unfolding share_request_turn
   request_did id store d wrote e = rw (← requested) (sent_did _ store d (written_length wrote e) (written_bytes wrote))

@@ -1,10 +1,9 @@
 -- request_sig_shares at the level of struct and store. The store stays.
-use Rattle.std.specs.Prelude.{ℕ, ◌<◌, ◌≤◌, ◌≡◌, true, List, [], ◌∷◌, get_or}
+use Rattle.std.specs.Prelude.{ℕ, ◌<◌, ◌≤◌, ◌≡◌, true, List, [], ◌∷◌, get_or, Some}
 use Rattle.layout.specs.Limits.{message_limit, record_limit, store_length, answer_length}
 use Rattle.layout.specs.declared.SignatureType.{SignatureType}
 use Rattle.state_table.specs.declared.State.TheVariants.{SigShareGather}
 use Rattle.step_definition.specs.Calls as A
-use Rattle.state.specs.declared.fields.Reading.TheVariants.{At}
 use Rattle.state.specs.declared.fields.Coordinator.{Coordinator}
 use Rattle.state.specs.Counts.{is_within_limits, row_within_limits}
 use Rattle.state.specs.View.{no_row}
@@ -20,7 +19,7 @@ with_current m s = set_message (message_with m s.message) s
 -- the shares are emptied and the share clock is started
 unfoldable pub shares_requested : ℕ → SignatureType → List ℕ → Coordinator → Coordinator
 shares_requested clock t m s =
-    set_clocks (record { nonce_start = s.clocks.nonce_start; sign_start = At clock })
+    set_clocks (record { nonce_start = s.clocks.nonce_start; sign_start = Some clock })
     (set_position (record { state = SigShareGather t; root = s.position.root }) (set_shares none_held (with_current m s)))
 
 -- what is known of a record whose shares are asked for

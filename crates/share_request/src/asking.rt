@@ -4,14 +4,14 @@ ghost use Rattle.std.specs.Prelude.{◌≡◌, length};
 ghost use Rattle.state.specs.Turns.{Did};
 ghost use Rattle.share_request.specs.Asking.{shares_requested, Known, share_request_turn};
 
-use framing::Written;
 use layout::{SignatureType, SignerId};
 use state::answers;
 use state::answers::{Class, Done};
-use state::fields::{Clocks, Coordinator, Position, Reading};
+use state::fields::{Clocks, Coordinator, Position};
 use state_table::State;
 
 // The nonce clock, the records and the root stay.
+#[tactic(auto, unfolding(crate::specs::Asking::shares_requested))]
 fn requested(
     s: Coordinator,
     clock: u64,
@@ -20,26 +20,19 @@ fn requested(
 ) -> Coordinator
     ensures { result ≡ shares_requested clock signature_type message.now s }
 {
-    let last = s.message;
-    let current = state::replaced::with_message(last, message);
-    let shares = state::replaced::no_shares();
-    let old = s.position;
-    let root = old.root;
-    let state = State::SigShareGather(signature_type);
-    let position = Position { state, root };
-    let readings = s.clocks;
-    let nonce_start = readings.nonce_start;
-    let sign_start = Reading::At(clock);
-    let clocks = Clocks {
-        nonce_start,
-        sign_start,
-    };
-    let mut t = s;
-    t.message = current;
-    t.shares = shares;
-    t.position = position;
-    t.clocks = clocks;
-    t
+    Coordinator {
+        message: state::replaced::with_message(s.message, message),
+        shares: state::replaced::no_shares(),
+        position: Position {
+            state: State::SigShareGather(signature_type),
+            ..s.position
+        },
+        clocks: Clocks {
+            sign_start: Some(clock),
+            ..s.clocks
+        },
+        ..s
+    }
 }
 
 // The shares asked for, from the responses of the record r. `id` is the signer whose response was recorded.
@@ -60,8 +53,8 @@ pub fn request_sig_shares(
     let after = requested(s, clock, signature_type, message);
     let written = crate::write_share_request(after, store, out, r, message, signature_type);
     match written {
-        Written::Bytes(len) => answers::sending(after, Class::Packet, len),
+        Ok(len) => answers::sending(after, Class::Packet, len),
         // there is room, and the lists are short
-        Written::Refused(_) => answers::refused(after, 7),
+        Err(_) => answers::refused(after, 7),
     }
 }

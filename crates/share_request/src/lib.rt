@@ -9,7 +9,6 @@ ghost use Rattle.framing.specs.Writing.{Wrote, written};
 ghost use Rattle.share_request.specs.ShareRequest.{Sendable, request_bytes};
 
 use body::RequestHead;
-use framing::Written;
 use layout::SignatureType;
 use signers::order;
 use state::fields::Coordinator;
@@ -21,23 +20,17 @@ pub fn write_share_request(
     r: usize,
     message: &[u8],
     signature_type: SignatureType,
-) -> Written
+) -> Result<usize, u8>
     requires { Sendable s r (length store.now) (length message.now) (length out.old) }
     ensures { Wrote (written (request_bytes s store.now r message.now signature_type))
         out.old result out.new }
 {
-    let config = s.config;
-    let walked = order::ascending(config);
-    let records = s.records;
-    let row = records.rows[r];
-    let places = order::response_places(walked, r, row);
-    let position = s.position;
-    let root = position.root;
-    let ids = s.ids;
+    let walked = order::ascending(s.config);
+    let places = order::response_places(walked, r, s.records.rows[r]);
     let head = RequestHead {
-        ids,
+        ids: s.ids,
         signature_type,
-        root,
+        root: s.position.root,
     };
     requests::write_signature_share_request(out, head, message, store, places)
 }

@@ -1,5 +1,6 @@
 -- What taking shares asks, and what it did.
 -- Assumes nothing.
+use Rattle.std.specs.Prelude.{Ok}
 use Prim.Native.Nat.{ℕ, ◌≤◌}
 use mathlib.Core.Path.{◌≡◌}
 use mathlib.Core.Bool.{Bool, true, false}
@@ -11,9 +12,7 @@ use Rattle.layout.specs.Limits.{message_limit}
 use Rattle.layout.specs.declared.Header.{Header}
 use Rattle.layout.specs.declared.SignatureType.{SignatureType}
 use Rattle.layout.specs.LaidOut.{parts_from}
-use Rattle.framing.specs.declared.Written.{Written}
-use Rattle.framing.specs.declared.Written.TheVariants.{Bytes}
-use Rattle.framing.specs.Writing.{Wrote, written}
+use Rattle.framing.specs.Writing.{Wrote, written, Written}
 use Rattle.step_definition.specs.SigShareGather.{any_waits}
 use Rattle.state.specs.declared.answers.Done.{Done}
 use Rattle.state.specs.declared.fields.Coordinator.{Coordinator}
@@ -37,7 +36,7 @@ pub job_did :
     (t : SignatureType) (id r : ℕ) (s : Coordinator) (store : List ℕ) (mark : Bool) {d : Done} {n : ℕ} {out out' : List ℕ} {w : Written}
     → mark ≡ job_mark s store r
     → d ≡ record { answer = handing_answer mark n; after = set_job true s }
-    → Wrote (written (job_bytes s store r (take s.message.len s.message.bytes) t)) out w out' → w ≡ Bytes n → Did (job_turn t id r s store) out d store out'
+    → Wrote (written (job_bytes s store r (take s.message.len s.message.bytes) t)) out w out' → w ≡ Ok n → Did (job_turn t id r s store) out d store out'
 unfolding job_turn
 job_did t id r s store mark m d wrote e = rw (← m) (handed_did _ store d (written_length wrote e) (written_bytes wrote))
 

@@ -1,10 +1,10 @@
 -- Taking a waiter's good shares gives what the definition says of what the struct and the store stand for.
 -- Assumes nothing.
+use Rattle.std.specs.Prelude.{Some}
 use Prim.Native.Nat.{ℕ, ◌<◌}
 use mathlib.Core.Path.{◌≡◌, refl, sym, ap, ◌∙◌}
 use mathlib.Core.Bool.{Bool, true, false, cond}
 use mathlib.Core.List.{List, [], ◌∷◌}
-use mathlib.Core.Option.{some}
 use native.Mathlib.Omega.{arith}
 use lib.ListN.{length, take, get_or}
 use Rattle.layout.specs.Limits.{signer_limit}
@@ -13,7 +13,6 @@ use Rattle.layout.specs.LaidOut.{header_in, parts_from}
 use Rattle.layout.specs.Messages.{NonceResponse, SignatureShareResponse}
 use Rattle.layout.specs.Decode.{share_response_in}
 use Rattle.pieces.proofs.Given.{live_at}
-use Rattle.state_table.specs.declared.StateType.TheVariants.{Typed}
 use Rattle.state_table.specs.States.{type_in}
 use Rattle.step_definition.specs.Lists.{is_some}
 use Rattle.step_definition.specs.Coordinator as C
@@ -61,7 +60,7 @@ row-good s r shaped w h =
 
 -- good shares of a waiter that is freed
 module _ (t : SignatureType) (p : List ℕ) (r i : ℕ) (s : Coordinator) (store : List ℕ) {room : ℕ} (shaped : Shaped s) (b : s.commissioned ≡ true)
-    (typed : type_in s.position.state ≡ Typed t) (at : r ≡ record_place (take s.message.len s.message.bytes) s.records store) (g : Taking s store p (header_in p) r i room) where
+    (typed : type_in s.position.state ≡ Some t) (at : r ≡ record_place (take s.message.len s.message.bytes) s.records store) (g : Taking s store p (header_in p) r i room) where
   abbrev c : C.Coordinator
   c = coordinator_of s store
 
@@ -84,7 +83,7 @@ module _ (t : SignatureType) (p : List ℕ) (r i : ℕ) (s : Coordinator) (store
   store' = kept_store i parts store
 
   -- the current message's record
-  record_seen : C.current_record c ≡ some (row_of (slots_of s.config) store r row)
+  record_seen : C.current_record c ≡ Some (row_of (slots_of s.config) store r row)
   unfolding coordinator_of round_of
   record_seen = rw at (found_record s store shaped g.within _ (rw (← at) g.known))
 

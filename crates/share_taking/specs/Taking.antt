@@ -1,6 +1,5 @@
 -- A removed waiter's good shares, at the level of struct and store.
-use Rattle.std.specs.Prelude.{ℕ, ◌<◌, ◌≤◌, ◌≡◌, true, cond, List, [], ◌∷◌, length, take, get_or}
-use Rattle.std.proofs.Math.Option.{some}
+use Rattle.std.specs.Prelude.{Some, ℕ, ◌<◌, ◌≤◌, ◌≡◌, true, cond, List, [], ◌∷◌, length, take, get_or}
 use Rattle.layout.specs.Limits.{store_length, answer_length}
 use Rattle.layout.specs.declared.Header.{Header}
 use Rattle.layout.specs.declared.SignatureType.{SignatureType}
@@ -22,7 +21,7 @@ pub record Taking (s : Coordinator) (store p : List ℕ) (h : Header) (r i room 
   pub stored : store_length ≤ length store
   pub wide : answer_length ≤ room
   pub shares : Shareable (parts_from p 32 h.pairs)
-  pub found : slot_of h.signer_id s.config ≡ some i
+  pub found : slot_of h.signer_id s.config ≡ Some i
   pub known : r < s.records.count
 
 -- what is known once the last waiter's shares are recorded

@@ -5,7 +5,6 @@ ghost use Rattle.std.specs.Prelude.{◌≡◌, ℕ, length};
 ghost use Rattle.state.specs.Turns.{Did};
 ghost use Rattle.share_taking.specs.Taking.{SharesRecorded, job_turn, Taking, take_turn};
 
-use framing::Written;
 use layout::{Header, SignatureType};
 use signing_job::waiters;
 use state::answers;
@@ -24,17 +23,13 @@ fn hand_job(
     ensures { (id : ℕ) → Did (job_turn signature_type id r s store.now)
         out.old result store.now out.new }
 {
-    let message = s.message;
-    let bytes = message.bytes;
-    let n = message.len;
-    let given = signing_job::write_signing_job(s, store, out, r, &bytes[..n], signature_type);
-    let written = given.written;
-    let mut t = s;
-    t.job = true;
-    match written {
-        Written::Bytes(len) => answers::handing(t, given.whole, len),
+    let message = &s.message.bytes[..s.message.len];
+    let given = signing_job::write_signing_job(s, store, out, r, message, signature_type);
+    let t = Coordinator { job: true, ..s };
+    match given.written {
+        Ok(len) => answers::handing(t, given.whole, len),
         // there is room, and the lists are short
-        Written::Refused(_) => answers::refused(t, 7),
+        Err(_) => answers::refused(t, 7),
     }
 }
 
@@ -53,18 +48,12 @@ pub fn take_shares(
     ensures { Did (take_turn signature_type packet.now h r i s store.old)
         out.old result store.new out.new }
 {
-    let held = s.shares;
-    let slot = held.slots[i];
-    if slot.held {
+    if s.shares.slots[i].held {
         return answers::quiet(s);
     }
-    let kept = shares::keep(held, store, i, packet, h.pairs);
-    let mut t = s;
-    t.shares = kept;
-    let config = s.config;
-    let records = s.records;
-    let row = records.rows[r];
-    if waiters::anyone_waits(config, row) {
+    let shares = shares::keep(s.shares, store, i, packet, h.pairs);
+    let t = Coordinator { shares, ..s };
+    if waiters::anyone_waits(s.config, s.records.rows[r]) {
         return answers::quiet(t);
     }
     hand_job(t, store, out, signature_type, r)

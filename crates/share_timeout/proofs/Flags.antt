@@ -1,14 +1,12 @@
 -- Flags joined place by place, and the signers that they flag: those of one list put among those of the other.
 -- Assumes nothing.
-use Prim.Native.Nat.{ℕ, zero, suc, ◌+◌, ◌<◌, ◌≤◌}
-use mathlib.Core.Path.{◌≡◌, refl, sym, ◌∙◌}
+use Prim.Native.Nat.{ℕ, zero, suc, ◌<◌}
+use mathlib.Core.Path.{◌≡◌, refl, ap, sym}
 use mathlib.Core.Bool.{Bool, true, false, ◌||◌}
-use mathlib.Core.List.{List, [], ◌∷◌, ◌++◌, append_assoc, append-nil}
-use native.Mathlib.Numerals.{add-one}
+use mathlib.Core.List.{List, [], ◌∷◌}
 use native.Mathlib.Omega.{arith}
 use borrow.Author.Tests.{lt-ltb, le-ltb, eq-eqb, ne_eqb}
-use lib.ListN.{length, get_or, set, take, drop, drop_of_length-le}
-use lib.Seq.{take-suc-set, take_all, drop-cons}
+use lib.ListN.{length, get_or, set, take}
 use Rattle.wire.specs.Bytes.{All}
 use Rattle.step_definition.specs.Lists.{insert_by}
 use Rattle.step_definition.specs.Ids.{insert, insert_all}
@@ -17,21 +15,36 @@ use Rattle.state.specs.Slots.{Above, Rising, collect, with_some, when}
 use Rattle.state.specs.View.{flagged_in}
 use Rattle.share_timeout.specs.Exclusion.{joined_flags}
 
--- the joined flags, filled from the front
-module _ (a b flags : List Bool) (i : ℕ) where
-  pub join_next :
-      {t : List Bool} (x : Bool) → i < length a → i < length b → i < length flags → x ≡ (get_or a i false || get_or b i false)
-      → take i flags ++ joined_flags (drop i a) (drop i b) ≡ t → take (i + 1) (set flags i x) ++ joined_flags (drop (i + 1) a) (drop (i + 1) b) ≡ t
-  unfolding joined_flags
-  join_next x h k l e g =
-      rw (e, add-one i, take-suc-set flags i (get_or a i false || get_or b i false) l)
-      (append_assoc (take i flags) ((get_or a i false || get_or b i false) ∷ []) (joined_flags (drop (suc i) a) (drop (suc i) b))
-      ∙ rw (drop-cons a i false h, drop-cons b i false k) at g)
+or_true : (x : Bool) → (x || true) ≡ true
+or_true true = refl
+or_true false = refl
 
-  pub join_done : {t : List Bool} → length a ≤ i → length b ≤ i → length flags ≤ i → take i flags ++ joined_flags (drop i a) (drop i b) ≡ t → flags ≡ t
-  unfolding joined_flags
-  join_done h k l g =
-      sym (append-nil flags) ∙ rw (take_all i flags l, drop_of_length-le a {i = i} h, drop_of_length-le b {i = i} k) at g
+or_false : (x : Bool) → (x || false) ≡ x
+or_false true = refl
+or_false false = refl
+
+join_nil : (a : List Bool) → joined_flags a [] ≡ a
+unfolding joined_flags
+join_nil [] = refl
+join_nil (x ∷ xs) = refl
+
+-- one flag more is joined: set, or left as it is
+pub join_set : (a b : List Bool) (i : ℕ) → i < length a → i < length b → get_or b i false ≡ true → set (joined_flags a (take i b)) i true ≡ joined_flags a (take (suc i) b)
+unfolding joined_flags
+join_set [] b i h k e = let z : ⊥ = omega arith in absurd z
+join_set (x ∷ xs) [] i h k e = let z : ⊥ = omega arith in absurd z
+join_set (x ∷ xs) (y ∷ ys) zero h k e = rw (e, or_true x, join_nil xs)
+join_set (x ∷ xs) (y ∷ ys) (suc i) h k e = ap (λ (l : List Bool). (x || y) ∷ l) (join_set xs ys i (omega arith) (omega arith) e)
+
+pub join_left : (a b : List Bool) (i : ℕ) → i < length a → i < length b → get_or b i false ≡ false → joined_flags a (take i b) ≡ joined_flags a (take (suc i) b)
+unfolding joined_flags
+join_left [] b i h k e = let z : ⊥ = omega arith in absurd z
+join_left (x ∷ xs) [] i h k e = let z : ⊥ = omega arith in absurd z
+join_left (x ∷ xs) (y ∷ ys) zero h k e = rw (e, or_false x, join_nil xs)
+join_left (x ∷ xs) (y ∷ ys) (suc i) h k e = ap (λ (l : List Bool). (x || y) ∷ l) (join_left xs ys i (omega arith) (omega arith) e)
+
+pub join_none : (a : List Bool) → a ≡ joined_flags a (take 0 [])
+join_none a = sym (join_nil a)
 
 joined_at : (a b : List Bool) (i : ℕ) → get_or (joined_flags a b) i false ≡ (get_or a i false || get_or b i false)
 unfolding joined_flags

@@ -105,7 +105,7 @@ pub share_timeout_refines :
     (clock : ℕ) (t : SignatureType) (s : Coordinator) (store : List ℕ) → Shaped s → s.commissioned ≡ true → is_within_limits s ≡ true
     → s.position.state ≡ SigShareGather t
     → Refines (share_timeout_turn clock t s store) (share_timeout clock t (coordinator_of s store).position.root (coordinator_of s store))
-unfolding share_timeout_turn share_timeout record_asked current_place question12 unless new_malicious find coordinator_of round_of row_of standing_of
+unfolding share_timeout_turn share_timeout record_asked current_place question12 unless new_malicious coordinator_of round_of row_of standing_of
 share_timeout_refines clock t s store shaped b w gathers = by (ltb (current_place s store) s.records.count) refl
   where
     m : List ℕ

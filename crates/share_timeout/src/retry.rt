@@ -6,7 +6,6 @@ ghost use Rattle.timeouts.specs.Named.{flagged_signers};
 ghost use Rattle.share_timeout.specs.ShareTimeout.{Late, insufficient_turn, share_timeout_turn};
 
 use crate::exclusion;
-use framing::Written;
 use layout::{SIGNER_LIMIT, SignatureType};
 use starts::nonces;
 use state::answers;
@@ -19,12 +18,10 @@ fn insufficient(s: Coordinator, out: &mut [u8], flags: [bool; SIGNER_LIMIT]) -> 
     ensures { (new store : List ℕ)
         → Did (insufficient_turn (flagged_signers s.config flags) new s store) out.old result store out.new }
 {
-    let config = s.config;
-    let written = timeouts::timeout_results::write_insufficient_signers(out, config, flags);
-    match written {
-        Written::Bytes(len) => answers::sending(s, Class::Result, len),
+    match timeouts::timeout_results::write_insufficient_signers(out, s.config, flags) {
+        Ok(len) => answers::sending(s, Class::Result, len),
         // there is room, and the list is short
-        Written::Refused(_) => answers::refused(s, 7),
+        Err(_) => answers::refused(s, 7),
     }
 }
 
@@ -40,20 +37,14 @@ pub fn share_timeout(
         out.old result store.now out.new }
 {
     let r = timeouts::current_place(s, store);
-    let held = s.records;
-    if held.count <= r {
+    if s.records.count <= r {
         return answers::refused(s, 12);
     }
-    let row = held.rows[r];
-    let waits = signer_ids::waiting(row);
+    let waits = signer_ids::waiting(s.records.rows[r]);
     let t = exclusion::exclude(s, waits);
-    let marks = t.marks;
-    let malicious = marks.malicious;
     // not the waiters alone: all who are malicious are taken off, and named
-    if exclusion::is_too_few(t, malicious) {
-        return insufficient(t, out, malicious);
+    if exclusion::is_too_few(&t, t.marks.malicious) {
+        return insufficient(t, out, t.marks.malicious);
     }
-    let position = t.position;
-    let root = position.root;
-    nonces::request_nonces(t, out, clock, signature_type, root)
+    nonces::request_nonces(t, out, clock, signature_type, t.position.root)
 }

@@ -4,7 +4,7 @@ use Prim.Native.Nat.{ℕ}
 use mathlib.Core.Path.{◌≡◌, refl, sym, ap, ◌∙◌}
 use mathlib.Core.Bool.{Bool, true, false, cond, ◌&&◌}
 use mathlib.Core.List.{List}
-use mathlib.Core.Option.{Option, some, none}
+use Rattle.std.specs.Prelude.{Option, Some, None}
 use borrow.Author.Tests.{ltb-true, ltb-false}
 use lib.Dec.{eqb, ltb}
 use lib.ListN.{get_or}
@@ -35,20 +35,20 @@ use Rattle.share_verdicts.specs.declared.Verdict.TheVariants.{Unawaited}
 use Rattle.share_verdicts.specs.Verdicts.{slot_at, awaited_at, shares_verdict, waiter_verdict, verdict_of, meaning}
 
 -- a list of ids that is collected over the signers' slots: whether one is in it is said by its slot
-module _ (g : Config) (id : ℕ) (f : SignerSlot → Option ℕ) (own : (e : SignerSlot) (y : ℕ) → f e ≡ some y → y ≡ e.id) where
-  member_at : (i : ℕ) → slot_of id g ≡ some i → member id (collect f (slots_of g)) ≡ is_some (f (signer_slot id i))
+module _ (g : Config) (id : ℕ) (f : SignerSlot → Option ℕ) (own : (e : SignerSlot) (y : ℕ) → f e ≡ Some y → y ≡ e.id) where
+  member_at : (i : ℕ) → slot_of id g ≡ Some i → member id (collect f (slots_of g)) ≡ is_some (f (signer_slot id i))
   member_at i found =
       member_found id (collect f (slots_of g))
       ∙ ap is_some (find_in (λ (x : ℕ). x) f own (signer_slot id i) (slots_of g) (slots_rise 0 (ids_of g)) (slot_in id 0 (ids_of g) i found))
 
-  member_nowhere : slot_of id g ≡ none → member id (collect f (slots_of g)) ≡ false
+  member_nowhere : slot_of id g ≡ None → member id (collect f (slots_of g)) ≡ false
   member_nowhere n =
       member_found id (collect f (slots_of g)) ∙ ap is_some (find_out (λ (x : ℕ). x) f own id (slots_of g) (slots_out id (ids_of g) n))
 
-flag-own : (flags : List Bool) (e : SignerSlot) (y : ℕ) → flagged_in flags e ≡ some y → y ≡ e.id
+flag-own : (flags : List Bool) (e : SignerSlot) (y : ℕ) → flagged_in flags e ≡ Some y → y ≡ e.id
 flag-own flags e y h = sym (when_some (get_or flags e.slot false) e.id y h)
 
-waits_own : (slots : List ResponseSlot) (e : SignerSlot) (y : ℕ) → waits_in slots e ≡ some y → y ≡ e.id
+waits_own : (slots : List ResponseSlot) (e : SignerSlot) (y : ℕ) → waits_in slots e ≡ Some y → y ≡ e.id
 waits_own slots e y h = sym (when_some ((get_or slots e.slot no_slot).held && (get_or slots e.slot no_slot).waits) e.id y h)
 
 -- 21, then 22: an entry that isn't there is not compared
@@ -77,10 +77,10 @@ module _ (s : Coordinator) (store : List ℕ) (shaped : Shaped s) (w : is_within
   waiters_known e = rw (found_record s store shaped w _ (ltb-true _ _ e))
 
   waiters_none : (x : ℕ) → ltb r s.records.count ≡ false → member x (C.waiters_of (C.current_record c)) ≡ false
-  unfolding current_place coordinator_of round_of member
+  unfolding current_place coordinator_of round_of
   waiters_none x e = rw (no_record s store shaped w _ (ltb-false _ _ e))
 
-  waits_nowhere : slot_of id s.config ≡ none → member id (C.waiters_of (C.current_record c)) ≡ false
+  waits_nowhere : slot_of id s.config ≡ None → member id (C.waiters_of (C.current_record c)) ≡ false
   waits_nowhere n = by (ltb r s.records.count) refl
     where
       by : (b : Bool) → ltb r s.records.count ≡ b → member id (C.waiters_of (C.current_record c)) ≡ false
@@ -89,7 +89,7 @@ module _ (s : Coordinator) (store : List ℕ) (shaped : Shaped s) (w : is_within
           rw (waiters_known e) (member_nowhere s.config id (waits_in slots) (waits_own slots) n)
       by false e = waiters_none id e
 
-  module _ (i : ℕ) (found : slot_of id s.config ≡ some i) where
+  module _ (i : ℕ) (found : slot_of id s.config ≡ Some i) where
     waits_at : member id (C.waiters_of (C.current_record c)) ≡ awaited_at s.records r i
     unfolding awaited_at
     waits_at = by (ltb r s.records.count) refl
@@ -125,8 +125,8 @@ module _ (s : Coordinator) (store : List ℕ) (shaped : Shaped s) (w : is_within
 
   at_slot : (o : Option ℕ) → slot_of id s.config ≡ o → share_verdict q c ≡ meaning (given o (waiter_verdict s q r) Unawaited)
   unfolding share_verdict waiter_verdict meaning coordinator_of
-  at_slot none e = rw (waits_nowhere e)
-  at_slot (some i) e =
+  at_slot None e = rw (waits_nowhere e)
+  at_slot (Some i) e =
       rw (waits_at i e)
       (cond_image meaning (awaited_at s.records r i)
       (cond_image meaning (eqb q.ids.dkg_id s.ids.dkg_id)

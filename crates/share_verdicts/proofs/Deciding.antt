@@ -4,7 +4,7 @@ use Prim.Native.Nat.{ℕ, ◌<◌}
 use mathlib.Core.Path.{◌≡◌, refl}
 use mathlib.Core.Bool.{Bool, true, false, cond, ◌&&◌}
 use mathlib.Core.List.{List}
-use mathlib.Core.Option.{Option, some}
+use Rattle.std.specs.Prelude.{Option, Some}
 use native.Mathlib.Omega.{arith}
 use borrow.Author.Tests.{ltb-true}
 use lib.Dec.{eqb, ltb}
@@ -32,7 +32,7 @@ slot-told p g e f = rw (← e) f
 
 -- a waiter: the current message has a record, and the signer a slot in it
 pub record Waiter (s : Coordinator) (store : List ℕ) (id r i : ℕ) : Type 0 where
-  pub found : slot_of id s.config ≡ some i
+  pub found : slot_of id s.config ≡ Some i
   pub at : r ≡ current_place s store
   pub known : r < s.records.count
 
@@ -55,7 +55,7 @@ module _ (s : Coordinator) (store : List ℕ) (q : SignatureShareResponse) where
   unfolding shares_verdict
   shares_told i w = cond_both T (get_or s.marks.ended i false) (cond_both T (get_or s.config.signers i no_entry).has_keys (cond_both T (same_set (share_key_ids q.signature_shares) (listed (get_or s.config.signers i no_entry).keys)) w w) w) w
 
-  waits : (i : ℕ) → slot_of q.signer_id s.config ≡ some i → awaited_at s.records r i ≡ true → Waiter s store q.signer_id r i
+  waits : (i : ℕ) → slot_of q.signer_id s.config ≡ Some i → awaited_at s.records r i ≡ true → Waiter s store q.signer_id r i
   unfolding awaited_at
   waits i f e = by (ltb r s.records.count) refl e
     where

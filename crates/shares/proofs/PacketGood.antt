@@ -4,7 +4,7 @@ use Prim.Native.Nat.{ℕ, ◌≤◌}
 use mathlib.Core.Path.{◌≡◌, refl}
 use mathlib.Core.Bool.{true, false, ◌&&◌}
 use mathlib.Core.List.{List, map}
-use mathlib.Core.Option.{some}
+use Rattle.std.specs.Prelude.{Some}
 use lib.Dec.{leb}
 use lib.ListN.{length, get_or, length-map}
 use borrow.Author.Tests.{leb-true}
@@ -37,7 +37,7 @@ packet-good p l k w =
 pub packet-recorded :
     (s : Coordinator) (store p : List ℕ) (i : ℕ) → Shaped s → is_within_limits s ≡ true → store_length ≤ length store
     → is_laid_out p ≡ true → (header_in p).kind ≡ 4 → within (message_in p) ≡ true
-    → slot_of (share_response_in p).signer_id s.config ≡ some i → (get_or s.shares.slots i no_shares).held ≡ false
+    → slot_of (share_response_in p).signer_id s.config ≡ Some i → (get_or s.shares.slots i no_shares).held ≡ false
     → let ps = parts_from p 32 (header_in p).pairs in
     coordinator_of (set_shares (kept_shares i ps s.shares) s) (kept_store i ps store) ≡ keeping (share_response_in p) (coordinator_of s store)
 unfolding share_response_in

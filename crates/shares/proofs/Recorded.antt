@@ -4,7 +4,7 @@ use Prim.Native.Nat.{ℕ, ◌<◌, ◌≤◌}
 use mathlib.Core.Path.{◌≡◌, refl, sym, ap, ◌∙◌}
 use mathlib.Core.Bool.{Bool, true, false}
 use mathlib.Core.List.{List, map}
-use mathlib.Core.Option.{some}
+use Rattle.std.specs.Prelude.{Some}
 use native.Mathlib.Omega.{arith}
 use borrow.Author.Tests.{le-leb, ltb-true, ltb-false}
 use lib.Dec.{ltb, leb}
@@ -48,12 +48,12 @@ slot-within ps g =
     (and_both (leb (length ps) list_limit) (leb (sum (map part_keys ps)) list_limit) (le-leb (length ps) list_limit g.few) (le-leb (sum (map part_keys ps)) list_limit (keys_few ps g)))
 
 -- a slot's shares are its signer's
-shares-id : (store : List ℕ) (slots : List ShareSlot) (e : SignerSlot) (y : C.SignerShares) → shares_in store slots e ≡ some y → C.sharer_id y ≡ e.id
+shares-id : (store : List ℕ) (slots : List ShareSlot) (e : SignerSlot) (y : C.SignerShares) → shares_in store slots e ≡ Some y → C.sharer_id y ≡ e.id
 shares-id store slots e y h =
     sym (ap C.sharer_id (when_some (get_or slots e.slot no_shares).held (shares_of store e (get_or slots e.slot no_shares)) y h))
 
 module _ (s : Coordinator) (store : List ℕ) (shaped : Shaped s) (w : is_within_limits s ≡ true) (big : store_length ≤ length store)
-    (id i : ℕ) (found : slot_of id s.config ≡ some i) (free : (get_or s.shares.slots i no_shares).held ≡ false)
+    (id i : ℕ) (found : slot_of id s.config ≡ Some i) (free : (get_or s.shares.slots i no_shares).held ≡ false)
     (ps : List (List ℕ)) (ok : Shareable ps) where
   abbrev after : Coordinator
   after = set_shares (kept_shares i ps s.shares) s
@@ -95,7 +95,7 @@ module _ (s : Coordinator) (store : List ℕ) (shaped : Shaped s) (w : is_within
           shares-apart (shares_at_place i) (share_keys_at i) ps store wholes (above (omega arith)) (above (omega arith))
 
   -- the new shares stand where they were written
-  new_shares : shares_in store' (set s.shares.slots i (kept_slot ps)) (signer_slot id i) ≡ some x
+  new_shares : shares_in store' (set s.shares.slots i (kept_slot ps)) (signer_slot id i) ≡ Some x
   new_shares =
       let ten = shaped.shares in
       let h = n≤10 in

@@ -21,17 +21,9 @@ fn join(list: KeyIds, more: KeyIds) -> KeyIds
     requires { list.count + more.count ≤ list_limit }
     ensures { (listed result ≡ listed list ++ listed more) × (result.count ≡ list.count + more.count) }
 {
+    let count = list.count + more.count;
     let mut ids = list.ids;
-    let others = more.ids;
-    let more_count = more.count;
-    let mut count = list.count;
-    let mut i: usize = 0;
-    while i < more_count {
-        let key = others[i];
-        ids[count] = key;
-        count += 1;
-        i += 1;
-    }
+    ids[list.count..count].copy_from_slice(&more.ids[..more.count]);
     KeyIds { ids, count }
 }
 
@@ -44,13 +36,9 @@ pub fn share_keys(packet: &[u8], pairs: u16) -> KeyIds
         ids: [KeyId(0); LIST_LIMIT],
         count: 0,
     };
-    let mut k: u16 = 0;
-    while k < pairs {
+    for k in 0..pairs {
         let share = parts::share(packet, k as u8);
-        let bytes = parts::share_key_ids(share);
-        let more = keys::key_list(bytes);
-        list = join(list, more);
-        k += 1;
+        list = join(list, keys::key_list(parts::share_key_ids(share)));
     }
     list
 }
@@ -60,9 +48,8 @@ fn put_share(store: &mut [u8], at: usize, keys: usize, share: &[u8]) -> usize
     ensures value { result ≡ part_keys share.now }
     ensures store_after { store.new ≡ put_share at keys share.now store.old }
 {
-    let head = wire::part(share, 0, SHARE_LENGTH);
     let key_ids = parts::share_key_ids(share);
-    wire::copy(store, at, head);
+    wire::copy(store, at, wire::part(share, 0, SHARE_LENGTH));
     wire::copy(store, keys, key_ids);
     key_ids.len() / ID_LENGTH
 }
@@ -76,19 +63,15 @@ fn put_shares(store: &mut [u8], i: usize, packet: &[u8], pairs: u16) -> ShareSlo
     let mut key_counts: [u8; LIST_LIMIT] = [0; LIST_LIMIT];
     let mut at = SHARES_START + SHARE_BYTES * i;
     let mut keys = at + SHARE_KEYS_START;
-    let count = pairs as usize;
-    let mut k: usize = 0;
-    while k < count {
-        let share = parts::share(packet, k as u8);
-        let n = put_share(store, at, keys, share);
-        key_counts[k] = n as u8;
+    for k in 0..pairs {
+        let n = put_share(store, at, keys, parts::share(packet, k as u8));
+        key_counts[k as usize] = n as u8;
         at += SHARE_LENGTH;
         keys += n * ID_LENGTH;
-        k += 1;
     }
     ShareSlot {
         held: true,
-        count,
+        count: pairs as usize,
         key_counts,
     }
 }
@@ -99,8 +82,7 @@ pub fn keep(held: Shares, store: &mut [u8], i: usize, packet: &[u8], pairs: u16)
     ensures value { result ≡ kept_shares i (parts_from packet.now 32 pairs) held }
     ensures store_after { store.new ≡ kept_store i (parts_from packet.now 32 pairs) store.old }
 {
-    let slot = put_shares(store, i, packet, pairs);
-    let mut after = held;
-    after.slots[i] = slot;
-    after
+    let mut slots = held.slots;
+    slots[i] = put_shares(store, i, packet, pairs);
+    Shares { slots }
 }

@@ -4,15 +4,14 @@ use Prim.Native.Nat.{ℕ, ◌+◌, ◌*◌, ◌-◌, ◌<◌, ◌≤◌}
 use mathlib.Core.Path.{◌≡◌, refl, sym, ◌∙◌}
 use mathlib.Core.Bool.{Bool, true, false}
 use mathlib.Core.List.{List, [], ◌∷◌, ◌++◌, map, append_assoc, append-nil}
-use mathlib.Core.Option.{Option, some, none}
+use Rattle.std.specs.Prelude.{Option, Some, None}
 use native.Mathlib.Numerals.{add-one}
 use native.Mathlib.Omega.{arith}
-use lib.ListN.{length, get_or, set, take, drop}
-use lib.Seq.{take-suc-set}
+use lib.ListN.{length, get_or, set, take, drop, drop_of_length-le}
+use lib.Seq.{take-suc-set, drop-cons}
 use Rattle.layout.specs.Limits.{message_limit, list_limit, signer_limit, record_limit, store_length}
 use Rattle.pieces.specs.declared.places.ResponsePlace.{ResponsePlace}
-use Rattle.pieces.specs.declared.places.ResponsePlaces.{ResponsePlaces}
-use Rattle.pieces.specs.Places.{places_of, response_at, holds, response_holds}
+use Rattle.pieces.specs.Places.{response_at, holds, response_holds}
 use Rattle.wire.specs.Bytes.{every, All}
 use Rattle.wire.proofs.Lists.{and_both}
 use borrow.Author.Tests.{le-leb}
@@ -21,39 +20,32 @@ use Rattle.state.proofs.Within.{slot-few, row-slot, row-message}
 use Rattle.pieces.proofs.Given.{drop-live}
 use Rattle.job.proofs.Held.{live_none}
 use Rattle.state.specs.declared.fields.SignerSlot.{SignerSlot}
+use Rattle.state.specs.declared.fields.ResponseSlot.{ResponseSlot}
 use Rattle.state.specs.declared.fields.SignRoundInfo.{SignRoundInfo}
 use Rattle.state.specs.Slots.{collect, with_some, when}
 use Rattle.state.specs.View.{message_at, keys_at, nonces_at, no_slot, place_of, row_of}
 use Rattle.signers.specs.Order.{place_in}
 
-module _ (ps : ResponsePlaces) (r : ℕ) (row : SignRoundInfo) (e : SignerSlot) where
-  pub place_none : (get_or row.slots e.slot no_slot).held ≡ false → places_of ps ≡ places_of ps ++ with_some (place_in r row e) []
-  unfolding with_some
-  place_none h = rw h (sym (append-nil (places_of ps)))
-
-  pub place-some :
-      (at₁ at₂ : ℕ) → length ps.places ≡ signer_limit → ps.count < signer_limit → (get_or row.slots e.slot no_slot).held ≡ true → at₁ ≡ keys_at r e.slot → at₂ ≡ nonces_at r e.slot
-      → places_of (record {
-        places = set ps.places ps.count
-            (record {
-              ids = (get_or row.slots e.slot no_slot).ids;
-              signer_id = record { 0 = e.id };
-              message = record { at = message_at r; count = row.message };
-              key_ids = record { at = at₁; count = (get_or row.slots e.slot no_slot).key_ids };
-              nonces = record { at = at₂; count = (get_or row.slots e.slot no_slot).nonces };
-            });
-        count = ps.count + 1;
-      })
-      ≡ places_of ps ++ with_some (place_in r row e) []
-  unfolding with_some places_of place_of
-  place-some at₁ at₂ ten few h p q = rw (h, p, q, add-one ps.count) (take-suc-set ps.places ps.count _ (omega arith))
+-- the place of a response that is held
+pub place_there :
+    (r : ℕ) (row : SignRoundInfo) (e : SignerSlot) (x : ResponseSlot) (at₁ at₂ : ℕ)
+    → x ≡ get_or row.slots e.slot no_slot → x.held ≡ true → at₁ ≡ keys_at r e.slot → at₂ ≡ nonces_at r e.slot
+    → ◌≡◌ {A = Option ResponsePlace} (Some (record {
+      ids = x.ids;
+      signer_id = record { 0 = e.id };
+      message = record { at = message_at r; count = row.message };
+      key_ids = record { at = at₁; count = x.key_ids };
+      nonces = record { at = at₂; count = x.nonces };
+    })) (place_in r row e)
+unfolding place_of
+place_there r row e x at₁ at₂ is held k n = rw (← is, held, k, n)
 
 -- the walk, one signer on
 module _ {A : Type 0} (f : SignerSlot → Option A) (xs : List SignerSlot) (n j : ℕ) where
   with_join : (o : Option A) (done ys : List A) → (done ++ with_some o []) ++ ys ≡ done ++ with_some o ys
   unfolding with_some
-  with_join none done ys = rw (append-nil done)
-  with_join (some x) done ys = append_assoc done (x ∷ []) ys
+  with_join None done ys = rw (append-nil done)
+  with_join (Some x) done ys = append_assoc done (x ∷ []) ys
 
   pub walk_next : {t done' : List A} (done : List A) (d : SignerSlot) → j < n → n ≤ length xs → done' ≡ done ++ with_some (f (get_or xs j d)) []
       → done ++ collect f (drop j (take n xs)) ≡ t → done' ++ collect f (drop (j + 1) (take n xs)) ≡ t
@@ -63,6 +55,30 @@ module _ {A : Type 0} (f : SignerSlot → Option A) (xs : List SignerSlot) (n j 
   pub walk_done : {t : List A} (done : List A) → n ≤ j → done ++ collect f (drop j (take n xs)) ≡ t → done ≡ t
   unfolding collect
   walk_done done h g = sym (append-nil done) ∙ (rw (live_none xs n j h) at g)
+
+-- the walk along a whole list, one signer on: its slot gives one more, or nothing
+module _ {A : Type 0} (f : SignerSlot → Option A) (xs : List SignerSlot) (i : ℕ) where
+  given_next : (d : SignerSlot) → i < length xs → collect f (drop i xs) ≡ with_some (f (get_or xs i d)) (collect f (drop (i + 1) xs))
+  unfolding collect
+  given_next d low = rw (drop-cons xs i d low, add-one i)
+
+  pub along_some :
+      {t : List A} (d : SignerSlot) → i < length xs → (out : List A) (n : ℕ) (x : A) → n < length out → f (get_or xs i d) ≡ Some x
+      → take n out ++ collect f (drop i xs) ≡ t → take (n + 1) (set out n x) ++ collect f (drop (i + 1) xs) ≡ t
+  unfolding with_some
+  along_some d low out n x room e t =
+      rw (add-one n, take-suc-set out n x room)
+      (append_assoc (take n out) (x ∷ []) (collect f (drop (i + 1) xs)) ∙ rw (given_next d low, e) at t)
+
+  pub along_none :
+      {t : List A} (ys : List A) (d : SignerSlot) → i < length xs → f (get_or xs i d) ≡ None → ys ++ collect f (drop i xs) ≡ t
+      → ys ++ collect f (drop (i + 1) xs) ≡ t
+  unfolding with_some
+  along_none ys d low e t = rw (given_next d low, e) at t
+
+  pub along_end : {t : List A} (ys : List A) → length xs ≤ i → ys ++ collect f (drop i xs) ≡ t → ys ≡ t
+  unfolding collect
+  along_end ys h e = sym (append-nil ys) ∙ rw (drop_of_length-le xs {i = i} h) at e
 
 -- the responses at these places are the record's
 pub collect-map : {A B : Type 0} (g : A → B) (f : SignerSlot → Option A) (h : SignerSlot → Option B) (es : List SignerSlot)
@@ -94,7 +110,7 @@ place-holds size r n row e big low slot short keys nonces =
 pub places_hold :
     (size r n : ℕ) (row : SignRoundInfo) (es : List SignerSlot) → store_length ≤ size → r < record_limit → n ≤ signer_limit → row_within_limits n row ≡ true → All (λ (e : SignerSlot). e.slot < n) es
     → every (response_holds size) (collect (place_in r row) es) ≡ true
-unfolding collect every with_some
+unfolding collect with_some
 places_hold size r n row [] big low few w a = refl
 places_hold size r n row (e ∷ es) big low few w a = by (get_or row.slots e.slot no_slot).held refl (places_hold size r n row es big low few w a.1)
   where

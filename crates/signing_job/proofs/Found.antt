@@ -4,7 +4,7 @@ use Prim.Native.Nat.{ℕ}
 use mathlib.Core.Path.{◌≡◌, refl, sym, ap}
 use mathlib.Core.Bool.{Bool, true, false, cond, ◌&&◌}
 use mathlib.Core.List.{List, [], ◌∷◌}
-use mathlib.Core.Option.{some}
+use Rattle.std.specs.Prelude.{Some}
 use lib.ListN.{get_or}
 use Rattle.wire.specs.Bytes.{every, All}
 use Rattle.pieces.specs.Places.{response_at}
@@ -27,7 +27,7 @@ in_each P (e ∷ es) h = (h e here, in_each P es (λ t i. h t (later i)))
 
 module _ (store : List ℕ) (ss : Shares) where
   -- shares are their signer's
-  shares-id : (e : SignerSlot) (y : SignerShares) → shares_in store ss.slots e ≡ some y → sharer_id y ≡ e.id
+  shares-id : (e : SignerSlot) (y : SignerShares) → shares_in store ss.slots e ≡ Some y → sharer_id y ≡ e.id
   shares-id e y h = sym (ap sharer_id (when_some (get_or ss.slots e.slot no_shares).held (shares_of store e (get_or ss.slots e.slot no_shares)) y h))
 
   -- of these shares, a slot's are found by its id
@@ -42,7 +42,7 @@ module _ (store : List ℕ) (ss : Shares) where
   module _ (r : ℕ) (row : SignRoundInfo) (held : List SignerShares) where
     shared_in : (es : List SignerSlot) → All (Found held) es
         → all_shared (responses es store r row) held ≡ every (shares_are_held row.slots ss.slots) es
-    unfolding row_of collect with_some all_shared every shares_are_held response_at place_of
+    unfolding row_of collect with_some all_shared shares_are_held response_at place_of
     shared_in [] a = refl
     shared_in (e ∷ es) a = by (get_or row.slots e.slot no_slot).held (shared_in es a.1)
       where

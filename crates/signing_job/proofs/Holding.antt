@@ -71,7 +71,7 @@ place-holds size r row ss e big low slot keys nonces few =
 pub places_hold :
     (size r n : ℕ) (row : SignRoundInfo) (ss : Shares) (es : List SignerSlot) → store_length ≤ size → r < record_limit → n ≤ signer_limit → row_within_limits n row ≡ true
     → every shares_within (take n ss.slots) ≡ true → All (λ (e : SignerSlot). e.slot < n) es → every (job_holds size) (collect (job_place_in r row ss) es) ≡ true
-unfolding collect every with_some
+unfolding collect with_some
 places_hold size r n row ss [] big low few w v a = refl
 places_hold size r n row ss (e ∷ es) big low few w v a = by (get_or row.slots e.slot no_slot).held refl (places_hold size r n row ss es big low few w v a.1)
   where

@@ -21,18 +21,6 @@ use Rattle.state.specs.Slots.{with_some}
 use Rattle.state.specs.View.{keys_at, nonces_at, shares_at_place, share_keys_at, no_slot}
 use Rattle.signing_job.specs.Places.{held_shares, place_at, job_place_of, job_place_in}
 
-module _ (ps : JobPlaces) (r : ℕ) (row : SignRoundInfo) (ss : Shares) (e : SignerSlot) where
-  pub place_none : (get_or row.slots e.slot no_slot).held ≡ false → signers_in ps ≡ signers_in ps ++ with_some (job_place_in r row ss e) []
-  unfolding with_some
-  place_none h = rw h (sym (append-nil (signers_in ps)))
-
-  pub place-some :
-      (p : JobPlace) → length ps.places ≡ signer_limit → ps.count < signer_limit → (get_or row.slots e.slot no_slot).held ≡ true
-      → p ≡ job_place_of r row.slots ss.slots e
-      → signers_in (record { places = set ps.places ps.count p; count = ps.count + 1 }) ≡ signers_in ps ++ with_some (job_place_in r row ss e) []
-  unfolding with_some signers_in
-  place-some p ten few h k = rw (h, k, add-one ps.count) (take-suc-set ps.places ps.count (job_place_of r row.slots ss.slots e) (omega arith))
-
 -- a place whose sums are those of the store's layout
 pub place_built :
     (r i : ℕ) (response : ResponseSlot) (shares kept : ShareSlot) (at₁ at₂ at₃ at₄ : ℕ) → kept ≡ held_shares shares

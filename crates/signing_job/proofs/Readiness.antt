@@ -23,7 +23,7 @@ use Rattle.signing_job.specs.SigningJob.{JobReady}
 use Rattle.signing_job.specs.SentKeys.{Listed}
 
 no_row_law : (n : ℕ) → row_within_limits n no_row ≡ true
-unfolding row_within_limits every
+unfolding row_within_limits
 no_row_law zero = refl
 no_row_law (suc n) = refl
 

@@ -49,42 +49,24 @@ module _ (store : List ℕ) (r : ℕ) (row : SignRoundInfo) where
   lists_append (e ∷ es) fs =
       rw (lists_cons e (es ++ fs), lists_append es fs, lists_cons e es) (sym (append_assoc (list_of e) (lists es) (lists fs)))
 
-  -- the jth of the signers in order
-  module _ (slots : List SignerSlot) (count j : ℕ) (low : j < count) (fits : count ≤ length slots) where
+  -- the jth of the signers
+  module _ (es : List SignerSlot) (j : ℕ) (there : j < length es) where
     abbrev here : SignerSlot
-    here = get_or slots j (signer_slot 0 0)
-
-    abbrev all : List SignerSlot
-    all = take count slots
-
-    there : j < length all
-    there = rw length-take (omega arith)
-
-    found : get_or all j (signer_slot 0 0) ≡ here
-    found = get_or-take count slots j (signer_slot 0 0) low
+    here = get_or es j (signer_slot 0 0)
 
     -- one list more
-    pub lists_next : lists (take (j + 1) all) ≡ lists (take j all) ++ list_of here
+    pub lists_next : lists (take (j + 1) es) ≡ lists (take j es) ++ list_of here
     unfolding row_of collect joined_keys
     lists_next =
         let one : lists (here ∷ []) ≡ list_of here = lists_cons here [] ∙ append-nil (list_of here) in
-        rw (add-one, take-suc all j (signer_slot 0 0) there, found, lists_append (take j all) (here ∷ []), one)
+        rw (add-one, take-suc es j (signer_slot 0 0) there, lists_append (take j es) (here ∷ []), one)
 
     -- what is twice in the lists so far is twice in all
-    pub twice_in_all : distinct (lists (take j all) ++ list_of here) ≡ false → distinct (lists all) ≡ false
+    pub twice_in_all : distinct (lists (take j es) ++ list_of here) ≡ false → distinct (lists es) ≡ false
     twice_in_all twice =
-        let rest = lists (drop (suc j) all) in
-        let parts : lists all ≡ (lists (take j all) ++ list_of here) ++ rest =
-        ap lists (rw found at (split_at all j (signer_slot 0 0) there)) ∙ lists_append (take j all) (here ∷ drop (suc j) all)
-        ∙ ap (λ (l : List ℕ). lists (take j all) ++ l) (lists_cons here (drop (suc j) all))
-        ∙ sym (append_assoc (lists (take j all)) (list_of here) rest) in
-        ap distinct parts ∙ rw (distinct_append (lists (take j all) ++ list_of here) rest, twice)
-
--- what holds of each signer in order holds of the jth
-pub in_order : (P : SignerSlot → Type 0) (o : Order) (j : ℕ) → length o.slots ≡ 10 → o.count ≤ 10 → j < o.count → All P (ordered o)
-    → P (get_or o.slots j (signer_slot 0 0))
-unfolding ordered
-in_order P o j ten few low all =
-    let n = o.count in
-    let d = signer_slot 0 0 in
-    rw (get_or-take n o.slots j d low) at (all_get P (take n o.slots) j d (rw length-take (omega arith)) all)
+        let rest = lists (drop (suc j) es) in
+        let parts : lists es ≡ (lists (take j es) ++ list_of here) ++ rest =
+        ap lists (split_at es j (signer_slot 0 0) there) ∙ lists_append (take j es) (here ∷ drop (suc j) es)
+        ∙ ap (λ (l : List ℕ). lists (take j es) ++ l) (lists_cons here (drop (suc j) es))
+        ∙ sym (append_assoc (lists (take j es)) (list_of here) rest) in
+        ap distinct parts ∙ rw (distinct_append (lists (take j es) ++ list_of here) rest, twice)

@@ -1,12 +1,12 @@
 -- The job written is the step's, of the coordinator that struct and store stand for.
 -- Assumes nothing.
+use Rattle.std.specs.Prelude.{Some}
 use Prim.Native.Nat.{ℕ}
 use mathlib.Core.Path.{◌≡◌, refl}
 use mathlib.Core.List.{List}
 use lib.ListN.{take, get_or}
 use Rattle.layout.specs.declared.SignatureType.{SignatureType}
 use Rattle.layout.specs.Messages.{NonceResponse}
-use Rattle.state_table.specs.declared.StateType.TheVariants.{Typed}
 use Rattle.state_table.specs.States.{type_in}
 use Rattle.step_definition.specs.Effects.{root_for, job_of}
 use Rattle.state.specs.declared.fields.Coordinator.{Coordinator}
@@ -29,7 +29,7 @@ module _ (s : Coordinator) (store : List ℕ) (r : ℕ) where
     the_job_of = refl
 
     -- of the type that the state carries
-    pub job_viewed : type_in s.position.state ≡ Typed t
+    pub job_viewed : type_in s.position.state ≡ Some t
         → job_for s store r (take s.message.len s.message.bytes) t ≡ job_of t (coordinator_of s store).position.root qs (coordinator_of s store)
     unfolding coordinator_of position_of root_bytes round_of
     job_viewed e = rw e

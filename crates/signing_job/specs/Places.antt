@@ -1,6 +1,5 @@
 -- "In kinds 3 and 32 lists are each signer's list, joined in ascending signer id": where each signer's lists lie.
-use Rattle.std.specs.Prelude.{ℕ, cond, false, List, get_or, replicate}
-use Rattle.std.proofs.Math.Option.{Option}
+use Rattle.std.specs.Prelude.{Option, ℕ, cond, false, List, get_or, replicate}
 use Rattle.layout.specs.Limits.{list_limit}
 use Rattle.job.specs.declared.JobPlace.{JobPlace}
 use Rattle.state.specs.declared.fields.SignerSlot.{SignerSlot}

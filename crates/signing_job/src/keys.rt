@@ -47,17 +47,11 @@ pub fn none_twice(o: Order, source: &[u8], r: usize, row: SignRoundInfo) -> bool
     requires { Listed o (length source.now) r row }
     ensures { result ≡ distinct (joined_keys (responses (ordered o) source.now r row)) }
 {
-    let count = o.count;
-    let slots = o.slots;
-    let mut ids: [u32; KEY_LIMIT] = [0; KEY_LIMIT];
+    let mut ids = [0u32; KEY_LIMIT];
     let mut seen = [false; LAST_BYTES];
     let mut joined: usize = 0;
-    let mut j: usize = 0;
-    while j < count {
-        let e = slots[j];
-        let i = e.slot;
-        let slot = row.slots[i];
-        let list = sent_keys(source, r, i, slot);
+    for e in o.live() {
+        let list = sent_keys(source, r, e.slot, row.slots[e.slot]);
         if has_repeat(list) {
             return false;
         }
@@ -65,7 +59,6 @@ pub fn none_twice(o: Order, source: &[u8], r: usize, row: SignRoundInfo) -> bool
             return false;
         }
         joined += list.count;
-        j += 1;
     }
     true
 }

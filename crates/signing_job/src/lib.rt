@@ -7,7 +7,6 @@ ghost use Rattle.framing.specs.Writing.{Wrote, written};
 ghost use Rattle.signing_job.specs.SigningJob.{JobReady, job_bytes, job_mark};
 
 use body::RequestHead;
-use framing::Written;
 use layout::SignatureType;
 use signers::order;
 use state::fields::Coordinator;
@@ -20,7 +19,7 @@ pub mod whole;
 // What became of the answer buffer, and whether the job is whole.
 #[derive(Clone, Copy)]
 pub struct SigningJob {
-    pub written: Written,
+    pub written: Result<usize, u8>,
     pub whole: bool,
 }
 

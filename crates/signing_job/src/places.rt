@@ -1,16 +1,17 @@
 // Where the lists lie that a job joins: for each signer whose response is held, ascending, its key ids, its nonces and its shares.
-ghost use Rattle.std.specs.Prelude.{◌≡◌, ◌+◌, ◌≤◌, ◌<◌, [], ◌++◌};
+ghost use Rattle.std.specs.Prelude.{◌≡◌, ◌≤◌, ◌<◌};
 ghost use Rattle.layout.specs.Limits.{signer_limit, record_limit};
 ghost use Rattle.job.specs.Job.{signers_in};
-ghost use Rattle.state.specs.Slots.{collect, with_some};
+ghost use Rattle.state.specs.Slots.{collect, signer_slot};
 ghost use Rattle.signers.specs.Order.{ordered};
 ghost use Rattle.signing_job.specs.Places.{held_shares, place_at, job_place_in};
 
 use job::{JobPlace, JobPlaces};
 use layout::{LIST_LIMIT, SIGNER_LIMIT};
 use pieces::places::Place;
+use signers::order;
 use signers::order::Order;
-use state::fields::{ResponseSlot, ShareSlot, Shares, SignRoundInfo, SignerSlot};
+use state::fields::{ResponseSlot, ShareSlot, Shares, SignRoundInfo};
 use state::places::{
     KEYS_START, NONCES_START, RECORD_BYTES, RESPONSE_BYTES, SHARE_BYTES, SHARE_KEYS_START,
     SHARES_START,
@@ -57,60 +58,37 @@ fn place_at(r: usize, i: usize, response: ResponseSlot, shares: ShareSlot) -> Jo
     }
 }
 
-// The signer's place, where its response is held, after those that are there.
-fn add_place(
-    ps: JobPlaces,
-    r: usize,
-    row: SignRoundInfo,
-    shares: Shares,
-    e: SignerSlot,
-) -> JobPlaces
-    requires { (r < record_limit) × (ps.count < signer_limit) }
-    ensures { (signers_in result ≡ signers_in ps ++ with_some (job_place_in r row shares e) []) × (result.count ≤ ps.count + 1) }
+// Where the signer's lists lie whose response the slot holds, if it holds one.
+fn job_place_in(r: usize, row: &SignRoundInfo, shares: &Shares, slot: usize) -> Option<JobPlace>
+    requires { r < record_limit }
+    ensures { result ≡ job_place_in r row.now shares.now (signer_slot 0 slot) }
 {
-    let i = e.slot;
-    if SIGNER_LIMIT <= i {
-        return ps;
-    }
-    let response = row.slots[i];
-    let share_slot = shares.slots[i];
+    let response = row.slots.get(slot)?;
+    let share_slot = shares.slots.get(slot)?;
     if !response.held {
-        return ps;
+        return None;
     }
-    let place = place_at(r, i, response, share_slot);
-    let count = ps.count;
-    let mut places = ps.places;
-    places[count] = place;
-    JobPlaces {
-        places,
-        count: count + 1,
-    }
+    Some(place_at(r, slot, *response, *share_slot))
 }
 
 // Where the lists of the record's responders lie, ascending by signer.
 pub fn job_places(o: Order, r: usize, row: SignRoundInfo, shares: Shares) -> JobPlaces
-    requires { (r < record_limit) × (o.count ≤ signer_limit) }
+    requires { r < record_limit }
     ensures { (signers_in result ≡ collect (job_place_in r row shares) (ordered o)) × (result.count ≤ signer_limit) }
 {
-    let count = o.count;
-    let slots = o.slots;
     let none = Place { at: 0, count: 0 };
-    let zero = JobPlace {
+    let nowhere = JobPlace {
         key_ids: none,
         nonces: none,
         shares: none,
         share_keys_at: 0,
         share_key_counts: [0; LIST_LIMIT],
     };
-    let mut ps = JobPlaces {
-        places: [zero; SIGNER_LIMIT],
-        count: 0,
-    };
-    let mut j: usize = 0;
-    while j < count {
-        let e = slots[j];
-        ps = add_place(ps, r, row, shares, e);
-        j += 1;
-    }
-    ps
+    let mut places = [nowhere; SIGNER_LIMIT];
+    let count = order::along(
+        &o,
+        |_, slot| job_place_in(r, &row, &shares, slot),
+        &mut places,
+    );
+    JobPlaces { places, count }
 }

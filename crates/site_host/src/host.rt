@@ -1,5 +1,5 @@
 // What the host keeps between calls: the coordinator, and how much it lends of the store and of the answer buffer.
-use script::{print, tokens};
+use script::{cases, print, tokens};
 use site_calls::limits;
 use site_text::{answers, states};
 use state::fields::Coordinator;
@@ -12,27 +12,24 @@ pub struct Host {
 }
 
 pub fn fresh() -> Host {
-    let coordinator = commission::fresh::fresh(false, configuration::made::blank_config());
     Host {
-        coordinator,
+        coordinator: commission::fresh::fresh(false, configuration::made::blank_config()),
         store: layout::STORE_LENGTH,
         room: layout::ANSWER_LENGTH,
     }
 }
 
 pub fn standing(rt: &impl Print, host: Host) {
-    let s = host.coordinator;
-    states::coordinator(rt, s);
+    states::coordinator(rt, host.coordinator);
 }
 
 // Lends so much from now on.
 fn lend(rt: &impl Print, host: Host, args: &[u8]) -> Host {
-    print::text(rt, b"nothing");
-    let s = host.coordinator;
+    print::text(rt, "nothing");
     Host {
-        coordinator: s,
         store: wire::u32_at(args, 0) as usize,
         room: wire::u32_at(args, 4) as usize,
+        ..host
     }
 }
 
@@ -47,8 +44,7 @@ fn call(
 ) -> Coordinator {
     let before = print::sum_of(out);
     let done = site_dispatch::call(letter, args, s, store, out);
-    let answer = done.answer;
-    answers::answer(rt, answer, before, out);
+    answers::answer(rt, done.answer, before, out);
     done.after
 }
 
@@ -60,19 +56,15 @@ fn run_call(
     store: &mut [u8],
     out: &mut [u8],
 ) -> Host {
-    let n = host.store;
-    let m = host.room;
-    if store.len() < n || out.len() < m {
+    if store.len() < host.store || out.len() < host.room {
         return host;
     }
-    let lent = &mut store[0..n];
-    let room = &mut out[0..m];
-    let s = host.coordinator;
-    let coordinator = call(rt, letter, args, s, lent, room);
+    let lent = &mut store[..host.store];
+    let room = &mut out[..host.room];
+    let coordinator = call(rt, letter, args, host.coordinator, lent, room);
     Host {
         coordinator,
-        store: n,
-        room: m,
+        ..host
     }
 }
 
@@ -87,9 +79,8 @@ pub fn run(
     out: &mut [u8; layout::ANSWER_LENGTH],
 ) -> Host {
     let s = wire::part(args, 0, n);
-    let fault = limits::fault(letter, s);
-    if fault != limits::FINE {
-        limits::tell(rt, fault);
+    if let Err(fault) = limits::taken(letter, s) {
+        cases::tell(rt, &fault);
         return host;
     }
     if letter == b'B' {

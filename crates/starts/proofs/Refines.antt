@@ -1,7 +1,7 @@
 -- A start gives what the step says of what the struct and the store stand for.
 -- Assumes nothing.
+use Rattle.std.specs.Prelude.{Option, None, Some}
 use Rattle.std.proofs.Common.{◌≡◌, ℕ, ◌≤◌, Bool, true, cond, leb, List, [], ◌∷◌, length, refl, subst, le-leb, leb-true}
-use mathlib.Core.Option.{Option, some, none}
 use Rattle.wire.specs.Bytes.{every}
 use Rattle.layout.specs.declared.SignatureType.{SignatureType}
 use Rattle.layout.specs.Limits.{message_limit}
@@ -22,15 +22,13 @@ use Rattle.state.proofs.Viewed.{message_read}
 use Rattle.state.proofs.Within.{within, is_within}
 use Rattle.state.proofs.Moves.{move-viewed}
 use Rattle.state.proofs.Refines.{on_held_law, view_held, call_of, ask_refines, error_refines}
-use Rattle.starts.specs.declared.naming.SignId.{SignId}
-use Rattle.starts.specs.declared.naming.SignId.TheVariants.{Next, Given}
 use Rattle.starts.specs.declared.naming.Start.{Start}
-use Rattle.starts.specs.Starts.{sign_id_of, start_named, start_requested, request_bytes, request_turn, named_turn, round_turn, asking_start, start_turn}
+use Rattle.starts.specs.Starts.{sign_id_of, start_named, start_requested, request_bytes, request_turn, named_turn, round_turn, asking_start, start_turn, SignId}
 
 -- the definition's arguments
 abbrev pub id_given : SignId → Option ℕ
-id_given Next = none
-id_given (Given n) = some n
+id_given None = None
+id_given (Some n) = Some n
 
 abbrev pub as_start : List ℕ → Start → A.Start
 as_start message by = record { message = message; signature_type = by.signature_type; root = by.root; sign_id = id_given by.sign_id }
@@ -48,7 +46,7 @@ asks_nonces clock t root c =
     sends_nonce_request t root after (A.requested (nonce_request_of t root after) ∷ [])
 
 requested-within : (clock : ℕ) (t : SignatureType) (root : List ℕ) (s : Coordinator) → is_within_limits s ≡ true → is_within_limits (start_requested clock t root s) ≡ true
-unfolding start_requested records_within every
+unfolding start_requested records_within
 requested-within clock t root s w =
     let held = within s w in
     is_within (start_requested clock t root s) (record { config = held.config; message = held.message; records = refl; shares = held.shares })
@@ -56,7 +54,7 @@ requested-within clock t root s w =
 pub request_refines :
     (clock : ℕ) (t : SignatureType) (root : List ℕ) (s : Coordinator) (store : List ℕ) → s.commissioned ≡ true → is_within_limits s ≡ true
     → Refines (request_turn clock t root s store) (asks_nonces clock t (root_for t root) (coordinator_of s store))
-unfolding request_turn request_bytes start_requested coordinator_of standing_of round_of rows_from position_of root_bytes root_for reading
+unfolding request_turn request_bytes start_requested coordinator_of standing_of round_of rows_from position_of root_bytes root_for
 request_refines clock t root s store b w =
     record { answer = refl; events = refl; after = view_held (start_requested clock t root s) store b (requested-within clock t root s w) }
 
@@ -73,8 +71,8 @@ module _ (message : List ℕ) (few : length message ≤ message_limit) (s : Coor
       → coordinator_of (start_named message id s) store
       ≡ naming (record { message = message; signature_type = t; root = root; sign_id = id_given id }) (coordinator_of s store)
   unfolding start_named sign_id_of coordinator_of standing_of round_of
-  named-viewed t root store Next = rw (message_read message few s long)
-  named-viewed t root store (Given n) = rw (message_read message few s long)
+  named-viewed t root store None = rw (message_read message few s long)
+  named-viewed t root store (Some n) = rw (message_read message few s long)
 
 -- 11, of a struct with message and sign id stored that stands for c
 pub named_refines :

@@ -1,14 +1,13 @@
 -- A message within the limits, written into a buffer with room.
 -- Assumes nothing.
+use Rattle.std.specs.Prelude.{Ok}
 use Rattle.std.proofs.Common.{◌≡◌, ℕ, ◌≤◌, true, List, ◌++◌, length, take, drop, arith, length-take, le-ltb, le-leb}
 use Rattle.layout.specs.declared.SignatureType.{SignatureType}
 use Rattle.layout.specs.Messages.{Message, nonce_request}
 use Rattle.layout.specs.Encode.{encode}
 use Rattle.layout.specs.Decode.{within}
 use Rattle.layout.specs.Limits.{message_limit, answer_length}
-use Rattle.framing.specs.declared.Written.{Written}
-use Rattle.framing.specs.declared.Written.TheVariants.{Bytes}
-use Rattle.framing.specs.Writing.{Wrote, writing, written, write_message, answer, buffer}
+use Rattle.framing.specs.Writing.{Wrote, writing, written, write_message, answer, buffer, Written}
 use Rattle.state.specs.declared.fields.Coordinator.{Coordinator}
 use Rattle.starts.specs.Starts.{request_from}
 
@@ -18,7 +17,7 @@ module _ (m : Message) (out : List ℕ) (room : answer_length ≤ length out) (f
   whole = rw (le-ltb (length out) answer_length room, fine)
 
   module _ {r : Written} {after : List ℕ} (w : Wrote (write_message (length out) m) out r after) where
-    pub wrote_length : r ≡ Bytes (length (encode m))
+    pub wrote_length : r ≡ Ok (length (encode m))
     unfolding answer
     wrote_length = rw whole at w.answered
 

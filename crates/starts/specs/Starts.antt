@@ -1,5 +1,5 @@
 -- A start at the level of struct and store: what is stored, what `request_nonces` changes, and the packet that leaves. The store stays.
-use Rattle.std.specs.Prelude.{◌≡◌, ℕ, true, false, cond, List, [], ◌∷◌, ◌++◌, length, take, drop, nat_le}
+use Rattle.std.specs.Prelude.{◌≡◌, ℕ, true, false, cond, List, [], ◌∷◌, ◌++◌, length, take, drop, nat_le, Option, None, Some}
 use Rattle.layout.specs.declared.SignatureType.{SignatureType}
 use Rattle.layout.specs.Limits.{message_limit}
 use Rattle.layout.specs.Messages as M
@@ -11,19 +11,20 @@ use Rattle.step_definition.specs.Ids.{next}
 use Rattle.step_definition.specs.Effects.{root_for}
 use Rattle.step_definition.specs.Calls as A
 use Rattle.state.specs.declared.answers.Asks.{Asks}
-use Rattle.state.specs.declared.fields.Reading.TheVariants.{At}
 use Rattle.state.specs.declared.fields.Coordinator.{Coordinator}
 use Rattle.state.specs.Setters.{set_ids, set_message, set_position, set_records, set_clocks}
 use Rattle.state.specs.Turns.{Turn, error_turn, asked, unless}
 use Rattle.state.specs.Replaced.{message_with}
-use Rattle.starts.specs.declared.naming.SignId.{SignId}
-use Rattle.starts.specs.declared.naming.SignId.TheVariants.{Next, Given}
 use Rattle.starts.specs.declared.naming.Start.{Start}
+
+-- a given sign id, or none: then the one after the last round's
+abbrev pub SignId : Type 0
+SignId = Option ℕ
 
 -- the next sign id, wrapping, or the given one
 unfoldable pub sign_id_of : SignId → ℕ → ℕ
-sign_id_of Next last = next last
-sign_id_of (Given n) last = n
+sign_id_of None last = next last
+sign_id_of (Some n) last = n
 
 -- message and sign id stored
 unfoldable pub start_named : List ℕ → SignId → Coordinator → Coordinator
@@ -37,7 +38,7 @@ start_named message id s =
 unfoldable pub start_requested : ℕ → SignatureType → List ℕ → Coordinator → Coordinator
 start_requested clock t root s =
     let iteration = next s.ids.sign_iter_id in
-    set_clocks (record { nonce_start = At clock; sign_start = s.clocks.sign_start })
+    set_clocks (record { nonce_start = Some clock; sign_start = s.clocks.sign_start })
     (set_position (record { state = NonceGather t; root = root })
     (set_records (record { rows = s.records.rows; count = 0 })
     (set_ids (record { dkg_id = s.ids.dkg_id; sign_id = s.ids.sign_id; sign_iter_id = iteration }) s)))

@@ -5,31 +5,25 @@ ghost use Rattle.starts.specs.Starts.{sign_id_of, start_named};
 use layout::{Ids, ROOT_LENGTH, SignatureType};
 use state::fields::Coordinator;
 
-// The sign id of a round: the one after the last round's, or a given one.
-#[derive(Clone, Copy)]
-pub enum SignId {
-    Next,
-    Given(u64),
-}
-
 // start_signing_round's arguments besides the message. The root counts for TaprootRoot alone.
 #[derive(Clone, Copy)]
 pub struct Start {
     pub signature_type: SignatureType,
     pub root: [u8; ROOT_LENGTH],
-    pub sign_id: SignId,
+    pub sign_id: Option<u64>,
 }
 
-fn sign_id_of(id: SignId, last: u64) -> u64
+fn sign_id_of(id: Option<u64>, last: u64) -> u64
     ensures { result ≡ sign_id_of id last }
 {
     match id {
-        SignId::Next => std::num::wrapping_add_u64(last, 1),
-        SignId::Given(n) => n,
+        None => std::num::wrapping_add_u64(last, 1),
+        Some(n) => n,
     }
 }
 
-pub fn named(s: Coordinator, message: &[u8], id: SignId) -> Coordinator
+// Field by field, as `requested` is (nonces).
+pub fn named(s: Coordinator, message: &[u8], id: Option<u64>) -> Coordinator
     ensures { result ≡ start_named message.now id s }
 {
     let old = s.message;

@@ -8,7 +8,7 @@ use crate::naming::Start;
 use crate::{naming, nonces};
 use layout::MESSAGE_LIMIT;
 use state::answers;
-use state::answers::{Asks, Done, Passed};
+use state::answers::{Asks, Done};
 use state::fields::Coordinator;
 use state_table::State;
 
@@ -56,8 +56,8 @@ pub fn start(
     };
     let passed = answers::before(s, size, room, asks);
     match passed {
-        Passed::No(n) => answers::refused(s, n),
-        Passed::Yes => {
+        Err(n) => answers::refused(s, n),
+        Ok(()) => {
             if MESSAGE_LIMIT < message.len() {
                 answers::refused(s, 9)
             } else {

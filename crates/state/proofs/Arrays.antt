@@ -20,14 +20,12 @@ module _ {A : Type 0} where
   get_d_same k j x = get_d_either (λ (y : A). y ≡ x) k j x x refl refl
 
   pub every_same : (f : A → Bool) (n k : ℕ) (x : A) → f x ≡ true → every f (take n (replicate k x)) ≡ true
-  unfolding every
   every_same f zero k x e = refl
   every_same f (suc n) zero x e = refl
   every_same f (suc n) (suc k) x e = and_both (f x) (every f (take n (replicate k x))) e (every_same f n k x e)
 
   -- a test of each that counts, and of what lies past the end
   pub every_get : (f : A → Bool) (n : ℕ) (xs : List A) (i : ℕ) (d : A) → i < n → f d ≡ true → every f (take n xs) ≡ true → f (get_or xs i d) ≡ true
-  unfolding every
   every_get f zero xs i d h p e = let z : ⊥ = omega arith in absurd z
   every_get f (suc n) [] i d h p e = p
   every_get f (suc n) (x ∷ xs) zero d h p e = and_left (f x) (every f (take n xs)) e
@@ -35,7 +33,6 @@ module _ {A : Type 0} where
 
   -- one is replaced
   pub every_set : (f : A → Bool) (n : ℕ) (xs : List A) (i : ℕ) (x : A) → f x ≡ true → every f (take n xs) ≡ true → every f (take n (set xs i x)) ≡ true
-  unfolding every
   every_set f zero xs i x p e = refl
   every_set f (suc n) [] i x p e = refl
   every_set f (suc n) (y ∷ ys) zero x p e = and_both (f x) (every f (take n ys)) p (and_right (f y) (every f (take n ys)) e)
@@ -45,7 +42,6 @@ module _ {A : Type 0} where
 
   -- one more counts
   pub every_next : (f : A → Bool) (n : ℕ) (xs : List A) (x : A) → f x ≡ true → every f (take n xs) ≡ true → every f (take (suc n) (set xs n x)) ≡ true
-  unfolding every
   every_next f zero [] x p e = refl
   every_next f zero (y ∷ ys) x p e = and_both (f x) true p refl
   every_next f (suc n) [] x p e = refl

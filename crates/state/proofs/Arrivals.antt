@@ -4,7 +4,7 @@ use Prim.Native.Nat.{ℕ, ◌+◌, ◌<◌}
 use mathlib.Core.Path.{◌≡◌, refl, ap₂}
 use mathlib.Core.Bool.{Bool, true, false}
 use mathlib.Core.List.{List, [], ◌∷◌, map}
-use mathlib.Core.Option.{Option, some, none}
+use Rattle.std.specs.Prelude.{Option, Some, None}
 use native.Mathlib.Omega.{arith}
 use lib.ListN.{get_or, take}
 use Rattle.wire.specs.Bytes.{All}
@@ -39,15 +39,15 @@ module _ {A B : Type 0} (held : SignerSlot → Bool) (x : SignerSlot → A) (y :
       by false xs ys r = r
 
 -- a list that is collected over ascending signers ascends
-module _ {A : Type 0} (key : A → ℕ) (f : SignerSlot → Option A) (keyed : (e : SignerSlot) (y : A) → f e ≡ some y → key y ≡ e.id) where
+module _ {A : Type 0} (key : A → ℕ) (f : SignerSlot → Option A) (keyed : (e : SignerSlot) (y : A) → f e ≡ Some y → key y ≡ e.id) where
   collect_above : (n : ℕ) (es : List SignerSlot) → Above n es → All (λ (m : ℕ). n < m) (map key (collect f es))
   unfolding collect with_some
   collect_above n [] a = tt
   collect_above n (e ∷ es) a = by (f e) refl (collect f es) (collect_above n es a.1)
     where
       by : (o : Option A) → f e ≡ o → (ys : List A) → All (λ (m : ℕ). n < m) (map key ys) → All (λ (m : ℕ). n < m) (map key (with_some o ys))
-      by none q ys r = r
-      by (some y) q ys r = (omega (arith, keyed e y q, a.0), r)
+      by None q ys r = r
+      by (Some y) q ys r = (omega (arith, keyed e y q, a.0), r)
 
   collect_ascends : (es : List SignerSlot) → Rising es → Ascending (map key (collect f es))
   unfolding collect with_some
@@ -56,8 +56,8 @@ module _ {A : Type 0} (key : A → ℕ) (f : SignerSlot → Option A) (keyed : (
     where
       by : (o : Option A) → f e ≡ o → (ys : List A) → All (λ (m : ℕ). e.id < m) (map key ys) → Ascending (map key ys)
           → Ascending (map key (with_some o ys))
-      by none q ys l r = r
-      by (some y) q ys l r = (all_imp (map key ys) (λ (m : ℕ) (h : e.id < m). omega (arith, keyed e y q)) l, r)
+      by None q ys l r = r
+      by (Some y) q ys l r = (all_imp (map key ys) (λ (m : ℕ) (h : e.id < m). omega (arith, keyed e y q)) l, r)
 
 row_readings : (es : List SignerSlot) → Rising es → (store : List ℕ) (r : ℕ) (row : SignRoundInfo) → OneReadingEach (row_of es store r row)
 unfolding row_of response_at place_of
@@ -73,7 +73,7 @@ row_readings es rising store r row =
           (λ e y h. arrival_id (get_or row.slots e.slot no_slot).held e.id _ y h) es rising;
     }
   where
-    arrival_id : (b : Bool) (id clock : ℕ) (y : Arrival) → when b (record { signer_id = id; clock = clock }) ≡ some y → y.signer_id ≡ id
+    arrival_id : (b : Bool) (id clock : ℕ) (y : Arrival) → when b (record { signer_id = id; clock = clock }) ≡ Some y → y.signer_id ≡ id
     arrival_id b id clock y h = rw (← when_some b (record { signer_id = id; clock = clock }) y h) refl
 
 rows_readings :

@@ -4,7 +4,7 @@ use Prim.Native.Nat.{ℕ, suc, ◌<◌, ◌≤◌}
 use mathlib.Core.Path.{◌≡◌, refl, sym, ap, ◌∙◌}
 use mathlib.Core.Bool.{Bool, true, false, cond, ◌||◌}
 use mathlib.Core.List.{List, [], ◌∷◌}
-use mathlib.Core.Option.{Option, some, none}
+use Rattle.std.specs.Prelude.{Option, Some, None}
 use native.Mathlib.Omega.{arith}
 use borrow.Author.Tests.{lt-ltb, le-ltb, eq-eqb, ne_eqb}
 use lib.Dec.{eqb}
@@ -19,10 +19,10 @@ use Rattle.state.proofs.SignerSlots.{In, here, later, in_all}
 
 -- what is there under a condition
 pub when_same : {A : Type 0} (b : Bool) (x y : A) → (b ≡ true → x ≡ y) → when b x ≡ when b y
-when_same true x y h = ap some (h refl)
+when_same true x y h = ap Some (h refl)
 when_same false x y h = refl
 
-pub when_some : {A : Type 0} (b : Bool) (x y : A) → when b x ≡ some y → x ≡ y
+pub when_some : {A : Type 0} (b : Bool) (x y : A) → when b x ≡ Some y → x ≡ y
 when_some true x y e = cc
 when_some false x y e = let z : ◌≡◌ {A = ℕ} 0 1 = cc in let f : ⊥ = omega arith in absurd f
 
@@ -36,7 +36,7 @@ module _ {A : Type 0} where
   collect_same f g [] a = refl
   collect_same f g (e ∷ es) a = rw (a.0, collect_same f g es a.1)
 
-  pub collect_none : (f : SignerSlot → Option A) (es : List SignerSlot) → ((e : SignerSlot) → f e ≡ none) → collect f es ≡ []
+  pub collect_none : (f : SignerSlot → Option A) (es : List SignerSlot) → ((e : SignerSlot) → f e ≡ None) → collect f es ≡ []
   unfolding collect with_some
   collect_none f [] h = refl
   collect_none f (e ∷ es) h = rw (h e) (collect_none f es h)
@@ -47,34 +47,34 @@ module _ {A : Type 0} where
   collect_length f (e ∷ es) = by (f e) (collect_length f es)
     where
       by : (o : Option A) → length (collect f es) ≤ length es → length (with_some o (collect f es)) ≤ suc (length es)
-      by none h = omega arith
-      by (some x) h = omega arith
+      by None h = omega arith
+      by (Some x) h = omega arith
 
   -- what passes where it is there, of each slot
   pub collect_every : (p : A → Bool) (f : SignerSlot → Option A) (es : List SignerSlot)
-      → All (λ (e : SignerSlot). (x : A) → f e ≡ some x → p x ≡ true) es → every p (collect f es) ≡ true
-  unfolding collect with_some every
+      → All (λ (e : SignerSlot). (x : A) → f e ≡ Some x → p x ≡ true) es → every p (collect f es) ≡ true
+  unfolding collect with_some
   collect_every p f [] a = refl
   collect_every p f (e ∷ es) a = by (f e) a.0 (collect_every p f es a.1)
     where
-      by : (o : Option A) → ((x : A) → o ≡ some x → p x ≡ true) → every p (collect f es) ≡ true → every p (with_some o (collect f es)) ≡ true
-      by none h r = r
-      by (some x) h r = and_both (p x) (every p (collect f es)) (h x refl) r
+      by : (o : Option A) → ((x : A) → o ≡ Some x → p x ≡ true) → every p (collect f es) ≡ true → every p (with_some o (collect f es)) ≡ true
+      by None h r = r
+      by (Some x) h r = and_both (p x) (every p (collect f es)) (h x refl) r
 
 -- each slot holds what has its id for a number
-module _ {A : Type 0} (key : A → ℕ) (f : SignerSlot → Option A) (keyed : (e : SignerSlot) (y : A) → f e ≡ some y → key y ≡ e.id) where
+module _ {A : Type 0} (key : A → ℕ) (f : SignerSlot → Option A) (keyed : (e : SignerSlot) (y : A) → f e ≡ Some y → key y ≡ e.id) where
   insert-above : (x : A) (es : List SignerSlot) → Above (key x) es → insert_by key x (collect f es) ≡ x ∷ collect f es
   unfolding collect with_some insert_by
   insert-above x [] a = refl
   insert-above x (e ∷ es) a = by (f e) refl (insert-above x es a.1)
     where
       by : (o : Option A) → f e ≡ o → insert_by key x (collect f es) ≡ x ∷ collect f es → insert_by key x (with_some o (collect f es)) ≡ x ∷ with_some o (collect f es)
-      by none q r = r
-      by (some y) q r = rw (lt-ltb (key x) (key y) (omega (arith, keyed e y q, a.0)))
+      by None q r = r
+      by (Some y) q r = rw (lt-ltb (key x) (key y) (omega (arith, keyed e y q, a.0)))
 
   -- one slot more holds something: it is inserted in its place
   pub collect-insert :
-      (x : A) (f' : SignerSlot → Option A) (t : SignerSlot) (es : List SignerSlot) → key x ≡ t.id → f t ≡ none → f' t ≡ some x → Rising es → In t es
+      (x : A) (f' : SignerSlot → Option A) (t : SignerSlot) (es : List SignerSlot) → key x ≡ t.id → f t ≡ None → f' t ≡ Some x → Rising es → In t es
       → All (λ (e : SignerSlot). (e.id ≡ t.id → ⊥) → f' e ≡ f e) es → collect f' es ≡ insert_by key x (collect f es)
   unfolding collect with_some insert_by
   collect-insert x f' t (e ∷ es) k n s a here o =
@@ -90,43 +90,42 @@ module _ {A : Type 0} (key : A → ℕ) (f : SignerSlot → Option A) (keyed : (
       rw (o.0 (λ q. omega arith), rest) (by below (f e) refl)
     where
       by : e.id < t.id → (p : Option A) → f e ≡ p → with_some p (insert_by key x (collect f es)) ≡ insert_by key x (with_some p (collect f es))
-      by l none q = refl
-      by l (some y) q =
+      by l None q = refl
+      by l (Some y) q =
           let m : key y < key x = omega (arith, keyed e y q) in
           rw (le-ltb (key x) (key y) (omega arith), ne_eqb (key x) (key y) (λ p. omega arith))
   collect-insert x f' t [] k n s a x7 o = elim x7 [ ]
 
   -- a search by number finds what the signer's slot holds
-  pub find_out : (id : ℕ) (es : List SignerSlot) → All (λ (e : SignerSlot). e.id ≡ id → ⊥) es → find (λ (y : A). eqb id (key y)) (collect f es) ≡ none
-  unfolding collect with_some find
+  pub find_out : (id : ℕ) (es : List SignerSlot) → All (λ (e : SignerSlot). e.id ≡ id → ⊥) es → find (λ (y : A). eqb id (key y)) (collect f es) ≡ None
+  unfolding collect with_some
   find_out id [] a = refl
   find_out id (e ∷ es) a = by (f e) refl (find_out id es a.1)
     where
-      by : (o : Option A) → f e ≡ o → find (λ (y : A). eqb id (key y)) (collect f es) ≡ none → find (λ (y : A). eqb id (key y)) (with_some o (collect f es)) ≡ none
-      by none q r = r
-      by (some y) q r = rw (ne_eqb id (key y) (λ p. a.0 (sym (keyed e y q) ∙ sym p))) r
+      by : (o : Option A) → f e ≡ o → find (λ (y : A). eqb id (key y)) (collect f es) ≡ None → find (λ (y : A). eqb id (key y)) (with_some o (collect f es)) ≡ None
+      by None q r = r
+      by (Some y) q r = rw (ne_eqb id (key y) (λ p. a.0 (sym (keyed e y q) ∙ sym p))) r
 
   pub find_in : (t : SignerSlot) (es : List SignerSlot) → Rising es → In t es → find (λ (y : A). eqb t.id (key y)) (collect f es) ≡ f t
-  unfolding collect with_some find
+  unfolding collect with_some
   find_in t (e ∷ es) a here = by (f t) refl (find_out t.id es (all_imp es (λ (d : SignerSlot) (l : t.id < d.id) (p : d.id ≡ t.id). omega arith) a.0))
     where
-      by : (o : Option A) → f t ≡ o → find (λ (y : A). eqb t.id (key y)) (collect f es) ≡ none → find (λ (y : A). eqb t.id (key y)) (with_some o (collect f es)) ≡ o
-      by none q r = r
-      by (some y) q r = rw (eq-eqb t.id (key y) (sym (keyed t y q)))
+      by : (o : Option A) → f t ≡ o → find (λ (y : A). eqb t.id (key y)) (collect f es) ≡ None → find (λ (y : A). eqb t.id (key y)) (with_some o (collect f es)) ≡ o
+      by None q r = r
+      by (Some y) q r = rw (eq-eqb t.id (key y) (sym (keyed t y q)))
   find_in t (e ∷ es) a (later i) = by (in_all (λ (d : SignerSlot). e.id < d.id) i a.0) (f e) refl (find_in t es a.1 i)
     where
       by : e.id < t.id → (o : Option A) → f e ≡ o → find (λ (y : A). eqb t.id (key y)) (collect f es) ≡ f t
           → find (λ (y : A). eqb t.id (key y)) (with_some o (collect f es)) ≡ f t
-      by l none q r = r
-      by l (some y) q r = rw (ne_eqb t.id (key y) (λ p. omega (arith, keyed e y q))) r
+      by l None q r = r
+      by l (Some y) q r = rw (ne_eqb t.id (key y) (λ p. omega (arith, keyed e y q))) r
   find_in t [] a x'' = elim x'' [ ]
 
 -- a member is found
 pub member_found : (id : ℕ) (xs : List ℕ) → member id xs ≡ is_some (find (λ (x : ℕ). eqb id x) xs)
-unfolding member find
 member_found id [] = refl
 member_found id (x ∷ xs) = by (eqb id x) (member_found id xs)
   where
-    by : (b : Bool) → member id xs ≡ is_some (find (λ (x : ℕ). eqb id x) xs) → b || member id xs ≡ is_some (cond b (some x) (find (λ (x : ℕ). eqb id x) xs))
+    by : (b : Bool) → member id xs ≡ is_some (find (λ (x : ℕ). eqb id x) xs) → b || member id xs ≡ is_some (cond b (Some x) (find (λ (x : ℕ). eqb id x) xs))
     by true h = refl
     by false h = h

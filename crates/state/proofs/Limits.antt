@@ -4,7 +4,7 @@ use Prim.Native.Nat.{ℕ, suc, min, ◌+◌, ◌*◌, ◌<◌, ◌≤◌}
 use mathlib.Core.Path.{◌≡◌, refl, sym, ap}
 use mathlib.Core.Bool.{Bool, true, false, cond, ◌&&◌}
 use mathlib.Core.List.{List, [], ◌∷◌, map}
-use mathlib.Core.Option.{Option, some}
+use Rattle.std.specs.Prelude.{Option, Some}
 use native.Mathlib.Nat.{add-zero, zero-add}
 use native.Mathlib.Omega.{arith}
 use borrow.Author.Tests.{leb-true, le-leb}
@@ -108,7 +108,7 @@ entry-few e w = by e.has_keys w
     by true h = leb-true _ _ h
     by false h = omega arith
 
-when-both : {A : Type 0} (b : Bool) (x y : A) → when b x ≡ some y → (b ≡ true) × (x ≡ y)
+when-both : {A : Type 0} (b : Bool) (x y : A) → when b x ≡ Some y → (b ≡ true) × (x ≡ y)
 when-both true x y e = (refl, cc)
 when-both false x y e = let z : ◌≡◌ {A = ℕ} 0 1 = cc in let f : ⊥ = omega arith in absurd f
 
@@ -150,7 +150,7 @@ module _ (s : Coordinator) (store : List ℕ) (w : Within s) where
   abbrev size : SignerSlot → ℕ
   size e = length (D.keys_in (signer_in s.config.signers e).key_ids)
 
-  sizes : (ds : List SignerSlot) → D.set_sizes (collect (λ (e : SignerSlot). some (signer_in s.config.signers e)) ds) ≡ over size ds
+  sizes : (ds : List SignerSlot) → D.set_sizes (collect (λ (e : SignerSlot). Some (signer_in s.config.signers e)) ds) ≡ over size ds
   unfolding D.set_sizes collect with_some over
   sizes [] = refl
   sizes (d ∷ ds) = ap (λ (m : ℕ). size d + m) (sizes ds)
@@ -158,12 +158,12 @@ module _ (s : Coordinator) (store : List ℕ) (w : Within s) where
   config_limits : W.config_within (config_of s.config) ≡ true
   unfolding W.config_within config_of D.question3 signer_in entries entry_within
   config_limits =
-      let f : SignerSlot → Option D.SignerConfig = λ (e : SignerSlot). some (signer_in s.config.signers e) in
+      let f : SignerSlot → Option D.SignerConfig = λ (e : SignerSlot). Some (signer_in s.config.signers e) in
       let ss = s.config.signers in
       and_both _ _
       (and_both _ _ (le-leb (length (collect f es)) signer_limit (ten f))
       (collect_every (λ (x : D.SignerConfig). leb (length (D.keys_in x.key_ids)) list_limit) f es
-      (all_imp es (λ (e : SignerSlot) (l : e.slot < n) (x : D.SignerConfig) (q : f e ≡ some x).
+      (all_imp es (λ (e : SignerSlot) (l : e.slot < n) (x : D.SignerConfig) (q : f e ≡ Some x).
       let same : signer_in ss e ≡ x = cc in
       let entry = get_or ss e.slot no_entry in
       rw (← same) (le-leb (length (set_of entry)) list_limit (omega (arith, set-size entry, entry-few entry (every_get entry_within n ss e.slot no_entry l refl (entries_within s w)))))) (slots-live s.config))))
@@ -186,11 +186,11 @@ module _ (s : Coordinator) (store : List ℕ) (w : Within s) where
       (le-leb (length (bytes_at 1 (record { at = message_at r; count = row.message }) store)) message_limit (omega (arith, bytes-few 1 (message_at r) row.message store)))
       (le-leb _ signer_limit (ten (held_in r row.message store row.slots))))
       (collect_every L.response_within (held_in r row.message store row.slots) es
-      (all_imp es (λ (e : SignerSlot) (l : e.slot < n) (x : NonceResponse) (q : held_in r row.message store row.slots e ≡ some x). response e l x q) (slots-live s.config))))
+      (all_imp es (λ (e : SignerSlot) (l : e.slot < n) (x : NonceResponse) (q : held_in r row.message store row.slots e ≡ Some x). response e l x q) (slots-live s.config))))
       (le-leb _ signer_limit (ten (arrival_in row.slots))))
       (le-leb _ signer_limit (ten (waits_in row.slots)))
     where
-      response : (e : SignerSlot) → e.slot < n → (x : NonceResponse) → held_in r row.message store row.slots e ≡ some x → L.response_within x ≡ true
+      response : (e : SignerSlot) → e.slot < n → (x : NonceResponse) → held_in r row.message store row.slots e ≡ Some x → L.response_within x ≡ true
       response e l x q =
           let slot = get_or row.slots e.slot no_slot in
           let b = when-both slot.held (response_at store (place_of r row.message row.slots e)) x q in
@@ -206,7 +206,7 @@ module _ (s : Coordinator) (store : List ℕ) (w : Within s) where
           (le-leb (length (L.nonces_in nonces)) list_limit (omega (arith, few.1, nonces_few nonces slot.nonces (bytes-few 66 (nonces_at r e.slot) slot.nonces store)))))
 
   rows_limits : (k : ℕ) (rows : List SignRoundInfo) → every (row_within_limits n) rows ≡ true → every W.record_within (rows_from es store k rows) ≡ true
-  unfolding every rows_from
+  unfolding rows_from
   rows_limits k [] h = refl
   rows_limits k (row ∷ rows) h =
       and_both _ _ (row_limits k row (and_left (row_within_limits n row) (every (row_within_limits n) rows) h))
@@ -216,9 +216,9 @@ module _ (s : Coordinator) (store : List ℕ) (w : Within s) where
   unfolding W.shares_within shares_within
   shares_limits =
       collect_every W.shares_within (shares_in store s.shares.slots) es
-      (all_imp es (λ (e : SignerSlot) (l : e.slot < n) (x : C.SignerShares) (q : shares_in store s.shares.slots e ≡ some x). shares e l x q) (slots-live s.config))
+      (all_imp es (λ (e : SignerSlot) (l : e.slot < n) (x : C.SignerShares) (q : shares_in store s.shares.slots e ≡ Some x). shares e l x q) (slots-live s.config))
     where
-      shares : (e : SignerSlot) → e.slot < n → (x : C.SignerShares) → shares_in store s.shares.slots e ≡ some x → W.shares_within x ≡ true
+      shares : (e : SignerSlot) → e.slot < n → (x : C.SignerShares) → shares_in store s.shares.slots e ≡ Some x → W.shares_within x ≡ true
       shares e l x q =
           let slot = get_or s.shares.slots e.slot no_shares in
           let counts = take slot.count slot.key_counts in

@@ -22,7 +22,6 @@ use Rattle.state.proofs.Within.{within, is_within, config_few, entries_within, k
 -- each of the first n passes
 get_every :
     {A : Type 0} (f : A → Bool) (n : ℕ) (xs : List A) (d : A) → ((i : ℕ) → i < n → f (get_or xs i d) ≡ true) → every f (take n xs) ≡ true
-unfolding every
 get_every f zero xs d h = refl
 get_every f (suc n) [] d h = refl
 get_every f (suc n) (x ∷ xs) d h =
@@ -74,7 +73,7 @@ share-few x w h =
 
 -- a row past the array's end
 no_row_law : (n : ℕ) → row_within_limits n no_row ≡ true
-unfolding row_within_limits every
+unfolding row_within_limits
 no_row_law zero = refl
 no_row_law (suc n) = refl
 

@@ -1,5 +1,6 @@
 -- A move's answer looks at a root only beside a type 3, where all 32 bytes stand for it: the struct's answer is that of what it stands for.
 -- Assumes nothing.
+use Rattle.std.specs.Prelude.{None, Some}
 use mathlib.Core.Path.{◌≡◌, refl, ap, sym, ◌∙◌}
 use mathlib.Core.Bool.{Bool, ◌&&◌}
 use mathlib.Core.List.{List}
@@ -11,16 +12,14 @@ use Rattle.layout.specs.declared.SignatureType.{SignatureType}
 use Rattle.layout.specs.declared.SignatureType.TheVariants.{Frost, Schnorr, Taproot, TaprootRoot}
 use Rattle.layout.specs.Types.{root_length}
 use Rattle.state_table.specs.declared.State.{State}
-use Rattle.state_table.specs.declared.StateType.{StateType}
-use Rattle.state_table.specs.declared.StateType.TheVariants.{Untyped, Typed}
-use Rattle.state_table.specs.States.{state_number, position, type_in, same_type, types_agree}
+use Rattle.state_table.specs.States.{state_number, position, type_in, same_type, types_agree, StateType}
 use Rattle.state_table.specs.Moves.{can_move_to, allowed}
 use Rattle.state_table.proofs.Table.{move-table}
 use Rattle.state.specs.View.{root_bytes}
 
 module _ (root root' : List ℕ) (h : length root ≡ 32) (h' : length root' ≡ 32) where
   same-type :
-      (t t' : SignatureType) → same_type t root t' root' ≡ same_type t (root_bytes (Typed t) root) t' (root_bytes (Typed t') root')
+      (t t' : SignatureType) → same_type t root t' root' ≡ same_type t (root_bytes (Some t) root) t' (root_bytes (Some t') root')
   unfolding same_type root_bytes root_length
   same-type Frost t' = refl
   same-type Schnorr t' = refl
@@ -32,9 +31,9 @@ module _ (root root' : List ℕ) (h : length root ≡ 32) (h' : length root' ≡
 
   the_types_agree : (a b : StateType) → types_agree a root b root' ≡ types_agree a (root_bytes a root) b (root_bytes b root')
   unfolding types_agree
-  the_types_agree a Untyped = refl
-  the_types_agree Untyped (Typed t') = refl
-  the_types_agree (Typed t) (Typed t') = same-type t t'
+  the_types_agree a None = refl
+  the_types_agree None (Some t') = refl
+  the_types_agree (Some t) (Some t') = same-type t t'
 
   pub move-viewed :
       (s s' : State)

@@ -1,10 +1,10 @@
 -- What every call is asked first: the struct's answer is the definition's.
 -- Assumes nothing.
+use Rattle.std.specs.Prelude.{Option, Some, None, Err, Ok}
 use Prim.Native.Nat.{ℕ}
 use mathlib.Core.Path.{◌≡◌, refl, sym, ap, subst, ◌∙◌}
 use mathlib.Core.Bool.{Bool, true, false, cond, not, ◌||◌}
 use mathlib.Core.List.{List, []}
-use mathlib.Core.Option.{Option, some, none}
 use lib.Dec.{leb}
 use lib.ListN.{length}
 use Rattle.step_definition.specs.Coordinator.{Held, uncommissioned, miscounted, commissioned}
@@ -15,23 +15,22 @@ use Rattle.step_definition.specs.Lists.{given}
 use Rattle.step_definition.specs.Questions as Q
 use Rattle.step_definition.specs.Step as S
 use Rattle.state.specs.declared.answers.Asks.{Asks}
-use Rattle.state.specs.declared.answers.Passed.{Passed}
-use Rattle.state.specs.declared.answers.Passed.TheVariants.{Yes, No}
 use Rattle.state.specs.declared.fields.Coordinator.{Coordinator}
 use Rattle.state.specs.Counts.{is_within_limits}
 use Rattle.state.specs.View.{view, held_if, coordinator_of}
 use Rattle.state.specs.Turns.{Turn, turn, error_turn, asked, asked_if, unless, Refines}
+use Rattle.state.specs.Passed.{Passed}
 
 abbrev asks_of : Asks → Q.Asks
 asks_of a = record { no_job = a.no_job; a_job = a.a_job; room = a.room }
 
 abbrev passed_of : Option ℕ → Passed
-passed_of none = Yes
-passed_of (some n) = No n
+passed_of None = (Ok tt)
+passed_of (Some n) = Err n
 
 chain :
-    (b₁ b₂ b₃ b₄ : Bool) → passed_of (cond b₁ (cond b₂ (cond b₃ (cond b₄ none (some 7)) (some 6)) (some 5)) (some 4))
-    ≡ cond b₁ (cond b₂ (cond b₃ (cond b₄ Yes (No 7)) (No 6)) (No 5)) (No 4)
+    (b₁ b₂ b₃ b₄ : Bool) → passed_of (cond b₁ (cond b₂ (cond b₃ (cond b₄ None (Some 7)) (Some 6)) (Some 5)) (Some 4))
+    ≡ cond b₁ (cond b₂ (cond b₃ (cond b₄ (Ok tt) (Err 7)) (Err 6)) (Err 5)) (Err 4)
 chain true true true true = refl
 chain true true true false = refl
 chain true true false b = refl
@@ -52,16 +51,16 @@ module _ (k : A.Call) (o : A.Operation) (a : Asks) (same : Q.asks o ≡ asks_of 
 
   passed :
       (s : Coordinator) (store : List ℕ) (rest : Turn) (c : Defined) (n : Option ℕ) → view s store ≡ commissioned c
-      → (passed_of n ≡ Yes → Refines rest (S.own k o c))
+      → (passed_of n ≡ (Ok tt) → Refines rest (S.own k o c))
       → Refines (unless (passed_of n) s store rest) (given n (λ (n : ℕ). A.failing n [] c) (S.own k o c))
   unfolding unless
-  passed s store rest c none e r = r refl
-  passed s store rest c (some n) e r = record { answer = refl; events = refl; after = e }
+  passed s store rest c None e r = r refl
+  passed s store rest c (Some n) e r = record { answer = refl; events = refl; after = e }
 
   by :
       (s : Coordinator) (store : List ℕ) (rest : Turn) (c : Defined) (b w : Bool) → k.store ≡ length store
       → view s store ≡ held_if b w c
-      → (asked_if a (length store) k.room c.job b w ≡ Yes → b ≡ true → w ≡ true → Refines rest (S.own k o c))
+      → (asked_if a (length store) k.room c.job b w ≡ (Ok tt) → b ≡ true → w ≡ true → Refines rest (S.own k o c))
       → Refines (unless (asked_if a (length store) k.room c.job b w) s store rest) (S.on_held k o (held_if b w c))
   unfolding S.on_held held_if unless asked_if
   by s store rest c true true l e r =
@@ -72,7 +71,7 @@ module _ (k : A.Call) (o : A.Operation) (a : Asks) (same : Q.asks o ≡ asks_of 
   -- with what the questions' answers say of struct and lengths
   pub on-asked :
       (s : Coordinator) (store : List ℕ) (rest : Turn) → k.store ≡ length store
-      → (asked a (length store) k.room s ≡ Yes → s.commissioned ≡ true → is_within_limits s ≡ true → Refines rest (S.own k o (coordinator_of s store)))
+      → (asked a (length store) k.room s ≡ (Ok tt) → s.commissioned ≡ true → is_within_limits s ≡ true → Refines rest (S.own k o (coordinator_of s store)))
       → Refines (unless (asked a (length store) k.room s) s store rest) (S.on_held k o (view s store))
   unfolding asked view coordinator_of
   on-asked s store rest l r = by s store rest (coordinator_of s store) s.commissioned (is_within_limits s) l refl r

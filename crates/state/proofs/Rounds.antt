@@ -2,7 +2,7 @@
 -- Assumes nothing.
 use mathlib.Core.Path.{◌≡◌, refl}
 use mathlib.Core.List.{map}
-use Rattle.wire.specs.Bytes.{number, every}
+use Rattle.wire.specs.Bytes.{number}
 use Rattle.layout.specs.Types.{root_length}
 use Rattle.layout.specs.Decode.{entries as entries_in, ids_in, nonce_in, nonces_in}
 use Rattle.pieces.specs.Places.{bytes_at, response_at}
@@ -16,7 +16,7 @@ use Rattle.state.specs.Rounds.{laid, holding, helds, placing, positions, countin
 
 -- all tables in one computation
 tables : (map holding helds ≡ helds) × (map placing positions ≡ positions) × (map counting counts ≡ counts) × (map saying answers ≡ answers)
-unfolding number every root_length entries_in ids_in nonce_in nonces_in bytes_at response_at shares_from listed place_slot
+unfolding number root_length entries_in ids_in nonce_in nonces_in bytes_at response_at shares_from listed place_slot
     slots_from with_some collect sum entries entry_within key_count config_within slot_within row_within_limits records_within
     shares_within is_within_limits reading signer_in config_of root_bytes position_of place_of row_of rows_from standing_of round_of
     coordinator_of held_if view laid holding helds placing positions counting counts said answer_of saying answers

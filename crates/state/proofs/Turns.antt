@@ -1,5 +1,6 @@
 -- What a call did, by its answer: refused, nothing, bytes sent; and what it knows once 4 to 7 are answered yes.
 -- Assumes nothing.
+use Rattle.std.specs.Prelude.{Err, Ok}
 use Prim.Native.Nat.{ℕ, ◌≤◌}
 use mathlib.Core.Path.{◌≡◌, refl, sym, ap, ◌∙◌}
 use mathlib.Core.Bool.{Bool, true, false, cond, not, ◌||◌}
@@ -15,17 +16,13 @@ use Rattle.state.specs.declared.answers.Class.{Class}
 use Rattle.state.specs.declared.answers.Class.TheVariants.{Nothing, Packet, Job, Result, Error}
 use Rattle.state.specs.declared.answers.Asks.{Asks}
 use Rattle.state.specs.declared.answers.Done.{Done}
-use Rattle.state.specs.declared.answers.Passed.{Passed}
-use Rattle.state.specs.declared.answers.Passed.TheVariants.{Yes, No}
 use Rattle.state.specs.declared.fields.Coordinator.{Coordinator}
 use Rattle.state.specs.Counts.{is_within_limits}
 use Rattle.state.proofs.Within.{within, config_few}
 use Rattle.state.specs.Turns.{Turn, turn, Did, said, class_of, class_in, answer_of, asked, asked_if, unless}
+use Rattle.state.specs.Passed.{Passed, passed}
 use Rattle.state.specs.Turns.{plain_answer, refused_answer, sending_answer, mismatched_answer, blaming_answer, handing_answer}
-use Rattle.framing.specs.declared.Written.{Written}
-use Rattle.framing.specs.declared.Written.TheVariants.{Bytes}
-use Rattle.framing.specs.declared.Written.TheVariants.{Refused as WriteRefused}
-use Rattle.framing.specs.Writing.{Wrote, written, answer, buffer}
+use Rattle.framing.specs.Writing.{Wrote, written, answer, buffer, Written}
 
 class_in_law : (k : Class) → k ≡ class_in (class_of k)
 class_in_law Nothing = refl
@@ -35,13 +32,13 @@ class_in_law Result = refl
 class_in_law Error = refl
 
 pub refused_did :
-    {p : Passed} {n : ℕ} {s : Coordinator} {r : Done} (store out : List ℕ) (rest : Turn) → p ≡ No n → r ≡ record { answer = refused_answer n; after = s }
+    {p : Passed} {n : ℕ} {s : Coordinator} {r : Done} (store out : List ℕ) (rest : Turn) → p ≡ Err n → r ≡ record { answer = refused_answer n; after = s }
     → Did (unless p s store rest) out r store out
 unfolding unless said answer_of
 refused_did store out rest e d = rw (e, d) (record { exact = refl; answered = refl; after = refl; stored = refl; buffered = refl })
 
 pub quiet_did :
-    {p : Passed} {t : Coordinator} {r : Done} (s : Coordinator) (store store' out : List ℕ) → p ≡ Yes → r ≡ record { answer = plain_answer; after = t }
+    {p : Passed} {t : Coordinator} {r : Done} (s : Coordinator) (store store' out : List ℕ) → p ≡ (Ok tt) → r ≡ record { answer = plain_answer; after = t }
     → Did (unless p s store (turn A.plain t store')) out r store' out
 unfolding unless said answer_of
 quiet_did s store store' out e d = rw (e, d) (record { exact = refl; answered = refl; after = refl; stored = refl; buffered = refl })
@@ -115,18 +112,18 @@ handed_did {whole} {n} {s} {r} {bs} {out} es store d e b =
 
 -- what a writer wrote: how many bytes, and the buffer
 module _ {bs out out' : List ℕ} {w : Written} (wrote : Wrote (written bs) out w out') where
-  pub written_length : {n : ℕ} → w ≡ Bytes n → n ≡ length bs
+  pub written_length : {n : ℕ} → w ≡ Ok n → n ≡ length bs
   unfolding answer
-  written_length e = let z : Bytes _ ≡ Bytes (length bs) = sym e ∙ wrote.answered in cc
+  written_length e = let z : Ok _ ≡ Ok (length bs) = sym e ∙ wrote.answered in cc
 
   pub written_bytes : out' ≡ bs ++ drop (length bs) out
   unfolding buffer
   written_bytes = wrote.buffered
 
   -- a writer that writes refuses nothing
-  pub never_refused : {n : ℕ} → w ≡ WriteRefused n → ⊥
+  pub never_refused : {n : ℕ} → w ≡ Err n → ⊥
   unfolding answer
-  never_refused e = let z : WriteRefused _ ≡ Bytes (length bs) = sym e ∙ wrote.answered in let y : ◌≡◌ {A = ℕ} 0 1 = cc in omega arith
+  never_refused e = let z : Err _ ≡ Ok (length bs) = sym e ∙ wrote.answered in let y : ◌≡◌ {A = ℕ} 0 1 = cc in omega arith
 
 -- 4 to 7 answered yes
 pub record Answered (a : Asks) (size room : ℕ) (s : Coordinator) : Type 0 where
@@ -135,10 +132,10 @@ pub record Answered (a : Asks) (size room : ℕ) (s : Coordinator) : Type 0 wher
   pub stored : store_length ≤ size
   pub roomy : (not a.room || leb answer_length room) ≡ true
 
-never : {n : ℕ} {b : Bool} → No n ≡ Yes → b ≡ true
+never : {n : ℕ} {b : Bool} → Err n ≡ passed → b ≡ true
 never e = let z : ◌≡◌ {A = ℕ} 0 1 = cc in let f : ⊥ = omega arith in absurd f
 
-all_yes : (b w z j k r : Bool) → cond b (cond w (cond z (cond j (cond k (cond r Yes (No 7)) (No 6)) (No 5)) (No 4)) (No 4)) (No 4) ≡ Yes
+all_yes : (b w z j k r : Bool) → cond b (cond w (cond z (cond j (cond k (cond r passed (Err 7)) (Err 6)) (Err 5)) (Err 4)) (Err 4)) (Err 4) ≡ passed
     → (b ≡ true) × (w ≡ true) × (z ≡ true) × (r ≡ true)
 all_yes true true true true true true e = (refl, refl, refl, refl)
 all_yes true true true true true false e = (refl, refl, refl, never e)
@@ -148,7 +145,7 @@ all_yes true true false j k r e = (refl, refl, never e, never e)
 all_yes true false z j k r e = (refl, never e, never e, never e)
 all_yes false w z j k r e = (never e, never e, never e, never e)
 
-pub answered_all : (a : Asks) (size room : ℕ) (s : Coordinator) → asked a size room s ≡ Yes → Answered a size room s
+pub answered_all : (a : Asks) (size room : ℕ) (s : Coordinator) → asked a size room s ≡ (Ok tt) → Answered a size room s
 unfolding asked asked_if
 answered_all a size room s e =
     let y = all_yes s.commissioned (is_within_limits s) (leb store_length size) (not a.no_job || not s.job) (not a.a_job || s.job) (not a.room || leb answer_length room) e in
@@ -156,13 +153,13 @@ answered_all a size room s e =
 
 -- a call that passes the questions before its own, and what 4 says of its struct
 pub passed_did :
-    {p : Passed} {r : Done} {store' out out' : List ℕ} {rest : Turn} (s : Coordinator) (store : List ℕ) → p ≡ Yes → Did rest out r store' out'
+    {p : Passed} {r : Done} {store' out out' : List ℕ} {rest : Turn} (s : Coordinator) (store : List ℕ) → p ≡ (Ok tt) → Did rest out r store' out'
     → Did (unless p s store rest) out r store' out'
 unfolding unless
 passed_did s store e d = rw e d
 
 -- 4 is yes: no more signers than the limit
-pub passed_few : (a : Asks) (size room : ℕ) (s : Coordinator) → asked a size room s ≡ Yes → s.config.count ≤ signer_limit
+pub passed_few : (a : Asks) (size room : ℕ) (s : Coordinator) → asked a size room s ≡ (Ok tt) → s.config.count ≤ signer_limit
 passed_few a size room s e = config_few s (within s (answered_all a size room s e).within)
 
 -- a question answered no, and yes

@@ -4,7 +4,7 @@ use Prim.Native.Nat.{ℕ, ◌≤◌}
 use mathlib.Core.Path.{◌≡◌, refl}
 use mathlib.Core.Bool.{true}
 use mathlib.Core.List.{List, []}
-use mathlib.Core.Option.{none}
+use Rattle.std.specs.Prelude.{None}
 use native.Mathlib.Omega.{arith}
 use lib.ListN.{length, take}
 use Rattle.wire.specs.Bytes.{put, every}
@@ -33,7 +33,7 @@ module _ (m : List ℕ) (few : length m ≤ message_limit) (s : Coordinator) (lo
 pub no_shares_law : (es : List SignerSlot) (store : List ℕ) → collect (shares_in store none_held.slots) es ≡ []
 no_shares_law es store =
     collect_none (shares_in store none_held.slots) es
-    (λ e. get_d_either (λ (x : ShareSlot). when x.held (shares_of store e x) ≡ none) signer_limit e.slot empty_shares no_shares refl refl)
+    (λ e. get_d_either (λ (x : ShareSlot). when x.held (shares_of store e x) ≡ None) signer_limit e.slot empty_shares no_shares refl refl)
 
 pub no_shares-within : (n : ℕ) → every shares_within (take n none_held.slots) ≡ true
 unfolding shares_within

@@ -1,7 +1,7 @@
 -- Rounds for the view: a struct with a value of its own in each field, beside a store whose bytes tell their place, and the coordinator
 -- that they stand for, written out in the step definition's words. Places are numbers here, so that one that is moved shows too.
-use Rattle.std.specs.Prelude.{ℕ, ◌+◌, ◌-◌, Bool, true, false, List, [], ◌∷◌, ◌++◌, map, length, replicate}
-use Rattle.std.proofs.Math.Option.{Option, some, none}
+use Rattle.state.specs.Clock.{Reading}
+use Rattle.std.specs.Prelude.{Option, ℕ, ◌+◌, ◌-◌, Bool, true, false, List, [], ◌∷◌, ◌++◌, map, length, replicate, None, Some}
 use Rattle.layout.specs.declared.Ids.{Ids}
 use Rattle.layout.specs.declared.SignatureType.TheVariants.{Frost, Schnorr, Taproot, TaprootRoot}
 use Rattle.layout.specs.Messages.{Arrival, Nonce, NonceResponse, SignatureShare}
@@ -14,8 +14,6 @@ use Rattle.state_table.specs.States.{Position as DefinedPosition}
 use Rattle.step_definition.specs.Configuration as D
 use Rattle.step_definition.specs.Coordinator as C
 use Rattle.step_definition.specs.Calls as A
-use Rattle.state.specs.declared.fields.Reading.{Reading}
-use Rattle.state.specs.declared.fields.Reading.TheVariants.{Never, At}
 use Rattle.state.specs.declared.fields.SignerEntry.{SignerEntry}
 use Rattle.state.specs.declared.fields.Config.{Config}
 use Rattle.state.specs.declared.fields.ResponseSlot.{ResponseSlot}
@@ -84,7 +82,7 @@ config_with nonce verify =
       threshold = 83;
       dkg_threshold = 84;
       sign_threshold = 85;
-      timeouts = record { dkg_public = At 21; dkg_private = At 22; dkg_end = At 23; nonce = nonce; sign = At 25 };
+      timeouts = record { dkg_public = Some 21; dkg_private = Some 22; dkg_end = Some 23; nonce = nonce; sign = Some 25 };
       signers =
           entry 30 true (keys_of (5 ∷ 7 ∷ []) 1)
           ∷ entry 10 true (keys_of (4 ∷ 6 ∷ 7 ∷ []) 2)
@@ -127,7 +125,7 @@ abbrev pub struct : Coordinator
 struct =
     record {
       commissioned = true;
-      config = config_with (At 24) true;
+      config = config_with (Some 24) true;
       ids = ids 1 2 3;
       position = record { state = SigShareGather TaprootRoot; root = replicate 32 6 };
       message = record { bytes = 7 ∷ 8 ∷ 9 ∷ []; len = 2 };
@@ -135,14 +133,14 @@ struct =
       shares =
           record { slots = share_slot_of true 1 (1 ∷ 9 ∷ []) ∷ share_slot_of true 2 (1 ∷ 2 ∷ 9 ∷ []) ∷ share_slot_of false 1 (1 ∷ []) ∷ [] };
       marks = record { ended = true ∷ false ∷ true ∷ true ∷ true ∷ []; malicious = false ∷ true ∷ false ∷ false ∷ true ∷ [] };
-      clocks = record { nonce_start = At 41; sign_start = At 42 };
+      clocks = record { nonce_start = Some 41; sign_start = Some 42 };
       keys = record { coordinator = true; aggregate = false };
       job = true;
     }
 
 -- What they stand for: signers ascend by id, each with what stands in its slot.
 abbrev signer : ℕ → List ℕ → D.SignerConfig
-signer id keys = record { id = id; key_ids = some keys }
+signer id keys = record { id = id; key_ids = Some keys }
 
 abbrev standing_with : Option ℕ → Bool → C.Keys → C.Standing
 standing_with nonce verify keys =
@@ -153,8 +151,8 @@ standing_with nonce verify keys =
         threshold = 83;
         dkg_threshold = 84;
         sign_threshold = 85;
-        timeouts = record { dkg_public = some 21; dkg_private = some 22; dkg_end = some 23; nonce = nonce; sign = some 25 };
-        signers = signer 10 (4 ∷ 6 ∷ []) ∷ record { id = 20; key_ids = none } ∷ signer 30 (5 ∷ []) ∷ [];
+        timeouts = record { dkg_public = Some 21; dkg_private = Some 22; dkg_end = Some 23; nonce = nonce; sign = Some 25 };
+        signers = signer 10 (4 ∷ 6 ∷ []) ∷ record { id = 20; key_ids = None } ∷ signer 30 (5 ∷ []) ∷ [];
         verify_packet_sigs = verify;
       };
       dkg_end_messages = 20 ∷ 30 ∷ [];
@@ -205,28 +203,28 @@ round_with clocks =
 abbrev pub stands : C.Coordinator
 stands =
     record {
-      standing = standing_with (some 24) true (record { coordinator_public_key = true; aggregate_public_key = false });
+      standing = standing_with (Some 24) true (record { coordinator_public_key = true; aggregate_public_key = false });
       ids = ids 1 2 3;
       position = position (SigShareGather TaprootRoot) (replicate 32 6);
-      round = round_with (record { nonce_start = some 41; sign_start = some 42 });
+      round = round_with (record { nonce_start = Some 41; sign_start = Some 42 });
       job = true;
     }
 
 -- the same with the other key held, no job out, verification off, the share clock not started, no nonce timeout, in NonceGather
 abbrev turned : Coordinator
 turned =
-    set_config (config_with Never false)
+    set_config (config_with None false)
     (set_position (record { state = NonceGather Schnorr; root = replicate 32 6 })
-    (set_clocks (record { nonce_start = At 41; sign_start = Never })
+    (set_clocks (record { nonce_start = Some 41; sign_start = None })
     (set_keys (record { coordinator = false; aggregate = true }) (set_job false struct))))
 
 abbrev stands_turned : C.Coordinator
 stands_turned =
     record {
-      standing = standing_with none false (record { coordinator_public_key = false; aggregate_public_key = true });
+      standing = standing_with None false (record { coordinator_public_key = false; aggregate_public_key = true });
       ids = ids 1 2 3;
       position = position (NonceGather Schnorr) [];
-      round = round_with (record { nonce_start = some 41; sign_start = none });
+      round = round_with (record { nonce_start = Some 41; sign_start = None });
       job = false;
     }
 
@@ -310,7 +308,7 @@ signers_of count keys num_keys =
       threshold = 0;
       dkg_threshold = 0;
       sign_threshold = 0;
-      timeouts = record { dkg_public = Never; dkg_private = Never; dkg_end = Never; nonce = Never; sign = Never };
+      timeouts = record { dkg_public = None; dkg_private = None; dkg_end = None; nonce = None; sign = None };
       signers =
           entry 1 true (keys_of [] keys)
           ∷ entry 2 true (keys_of [] 1)

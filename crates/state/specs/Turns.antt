@@ -1,14 +1,13 @@
 -- What a call gives at the level of struct and store, exactly: answer, struct, store, answer buffer.
-use Rattle.std.specs.Prelude.{ℕ, ◌≡◌, Bool, false, cond, not, ◌||◌, List, [], ◌∷◌, ◌++◌, leb, length, get_or, take, drop}
+use Rattle.std.specs.Prelude.{ℕ, ◌≡◌, Bool, false, cond, not, ◌||◌, List, [], ◌∷◌, ◌++◌, leb, length, get_or, take, drop, Err, Ok}
 use Rattle.layout.specs.Limits.{store_length, answer_length}
 use Rattle.step_definition.specs.Calls as A
+use Rattle.state.specs.Passed.{Passed}
 use Rattle.state.specs.declared.answers.Class.{Class}
 use Rattle.state.specs.declared.answers.Class.TheVariants.{Nothing, Packet, Job, Result, Error}
 use Rattle.state.specs.declared.answers.Answer.{Answer}
 use Rattle.state.specs.declared.answers.Done.{Done}
 use Rattle.state.specs.declared.answers.Asks.{Asks}
-use Rattle.state.specs.declared.answers.Passed.{Passed}
-use Rattle.state.specs.declared.answers.Passed.TheVariants.{Yes, No}
 use Rattle.state.specs.declared.fields.Coordinator.{Coordinator}
 use Rattle.state.specs.Counts.{is_within_limits}
 use Rattle.state.specs.View.{view}
@@ -111,19 +110,19 @@ asked_if a size room job commissioned within =
     (cond (leb store_length size)
     (cond (not a.no_job || not job)
     (cond (not a.a_job || job)
-    (cond (not a.room || leb answer_length room) Yes (No 7))
-    (No 6))
-    (No 5))
-    (No 4))
-    (No 4))
-    (No 4)
+    (cond (not a.room || leb answer_length room) (Ok tt) (Err 7))
+    (Err 6))
+    (Err 5))
+    (Err 4))
+    (Err 4))
+    (Err 4)
 
 unfoldable pub asked : Asks → ℕ → ℕ → Coordinator → Passed
 asked a size room s = asked_if a size room s.job s.commissioned (is_within_limits s)
 
 unfoldable pub unless : Passed → Coordinator → List ℕ → Turn → Turn
-unless Yes s store rest = rest
-unless (No n) s store rest = turn (A.refusing A.error n []) s store
+unless (Ok tt) s store rest = rest
+unless (Err n) s store rest = turn (A.refusing A.error n []) s store
 
 -- the same answer, the same events, and the struct and the store after stand for what the step says
 pub record Refines (t : Turn) (o : A.Outcome) : Type 0 where

@@ -1,13 +1,11 @@
 -- The coordinator that a struct and a store stand for, in the step definition's terms.
-use Rattle.std.specs.Prelude.{ℕ, ◌+◌, ◌*◌, Bool, true, false, ◌&&◌, List, [], ◌∷◌, map, take, get_or}
-use Rattle.std.proofs.Math.Option.{Option, some, none}
+use Rattle.state.specs.Clock.{Reading}
+use Rattle.std.specs.Prelude.{Option, ℕ, ◌+◌, ◌*◌, Bool, true, false, ◌&&◌, List, [], ◌∷◌, map, take, get_or, None, Some}
 use Rattle.layout.specs.Limits.{message_limit}
 use Rattle.layout.specs.Types.{type_number, root_length}
 use Rattle.layout.specs.Messages.{NonceResponse, Arrival}
 use Rattle.layout.specs.Encode.{no_ids}
-use Rattle.state_table.specs.declared.StateType.{StateType}
-use Rattle.state_table.specs.declared.StateType.TheVariants.{Untyped, Typed}
-use Rattle.state_table.specs.States.{position, type_in}
+use Rattle.state_table.specs.States.{position, type_in, StateType}
 use Rattle.state_table.specs.States.{Position as DefinedPosition}
 use Rattle.pieces.specs.declared.places.ResponsePlace.{ResponsePlace}
 use Rattle.pieces.specs.Places.{bytes_at, response_at}
@@ -15,8 +13,6 @@ use Rattle.job.specs.Job.{shares_from}
 use Rattle.validity.specs.Keys.{listed}
 use Rattle.step_definition.specs.Configuration as D
 use Rattle.step_definition.specs.Coordinator as C
-use Rattle.state.specs.declared.fields.Reading.{Reading}
-use Rattle.state.specs.declared.fields.Reading.TheVariants.{Never, At}
 use Rattle.state.specs.declared.fields.SignerEntry.{SignerEntry}
 use Rattle.state.specs.declared.fields.Config.{Config}
 use Rattle.state.specs.declared.fields.ResponseSlot.{ResponseSlot}
@@ -67,9 +63,8 @@ shares_at_place i = shares_start + share_bytes * i
 abbrev pub share_keys_at : ℕ → ℕ
 share_keys_at i = shares_at_place i + share_keys_start
 
-unfoldable pub reading : Reading → Option ℕ
-reading Never = none
-reading (At n) = some n
+abbrev pub reading : Reading → Option ℕ
+reading r = r
 
 abbrev pub entry_id : SignerEntry → ℕ
 entry_id e = e.id.0
@@ -116,14 +111,14 @@ config_of g =
       dkg_threshold = g.dkg_threshold;
       sign_threshold = g.sign_threshold;
       timeouts = timeouts_of g;
-      signers = collect (λ (e : SignerSlot). some (signer_in g.signers e)) (slots_of g);
+      signers = collect (λ (e : SignerSlot). Some (signer_in g.signers e)) (slots_of g);
       verify_packet_sigs = g.verify_packet_sigs;
     }
 
 -- a state with its root: 32 bytes for type 3, else none
 unfoldable pub root_bytes : StateType → List ℕ → List ℕ
-root_bytes Untyped root = []
-root_bytes (Typed t) root = take (root_length (type_number t)) root
+root_bytes None root = []
+root_bytes (Some t) root = take (root_length (type_number t)) root
 
 unfoldable pub position_of : Position → DefinedPosition
 position_of p = position p.state (root_bytes (type_in p.state) p.root)

@@ -1,7 +1,7 @@
 // Question 4: "its counts within these limits". Live counts only.
 ghost use Rattle.std.specs.Prelude.{◌≡◌, true, map, ◌≤◌, take};
 ghost use Rattle.wire.specs.Bytes.{every};
-ghost use Rattle.layout.specs.Limits.{list_limit, signer_limit};
+ghost use Rattle.layout.specs.Limits.{list_limit};
 ghost use Rattle.state.specs.Counts.{sum, entries, entry_within, key_count, config_within};
 ghost use Rattle.state.specs.Counts.{slot_within, row_within_limits, records_within, shares_within, is_within_limits};
 
@@ -10,184 +10,110 @@ use crate::fields::{
 };
 use layout::{LIST_LIMIT, MESSAGE_LIMIT, RECORD_LIMIT, SIGNER_LIMIT};
 
-fn is_entry_within(e: SignerEntry) -> bool
-    ensures { result ≡ entry_within e }
+#[tactic(auto, unfolding(crate::specs::Counts::entry_within))]
+fn is_entry_within(e: &SignerEntry) -> bool
+    ensures { result ≡ entry_within e.now }
 {
-    if !e.has_keys {
-        return true;
-    }
-    let keys = e.keys;
-    keys.count <= LIST_LIMIT
+    !e.has_keys || e.keys.count <= LIST_LIMIT
 }
 
-fn key_count(e: SignerEntry) -> usize
-    ensures { result ≡ key_count e }
+#[tactic(auto, unfolding(crate::specs::Counts::key_count))]
+fn key_count(e: &SignerEntry) -> usize
+    ensures { result ≡ key_count e.now }
 {
-    if !e.has_keys {
-        return 0;
-    }
-    let keys = e.keys;
-    keys.count
+    if e.has_keys { e.keys.count } else { 0 }
 }
 
-fn are_entries_within(g: Config) -> bool
-    requires { g.count ≤ signer_limit }
-    ensures { result ≡ every entry_within (entries g) }
+fn are_entries_within(g: &Config) -> bool
+    ensures { result ≡ every entry_within (entries g.now) }
 {
-    let count = g.count;
-    let signers = g.signers;
-    let mut i: usize = 0;
-    while i < count {
-        let e = signers[i];
-        if !is_entry_within(e) {
-            return false;
-        }
-        i += 1;
-    }
-    true
+    g.entries().iter().all(is_entry_within)
 }
 
 // The set sizes of the signers, summed.
-fn key_total(g: Config) -> usize
-    requires { (g.count ≤ signer_limit) × (every entry_within (entries g) ≡ true) }
-    ensures { result ≡ sum (map key_count (entries g)) }
+fn key_total(g: &Config) -> usize
+    requires { every entry_within (entries g.now) ≡ true }
+    ensures { result ≡ sum (map key_count (entries g.now)) }
 {
-    let count = g.count;
-    let signers = g.signers;
-    let mut total: usize = 0;
-    let mut i: usize = 0;
-    while i < count {
-        let e = signers[i];
+    let mut total = 0;
+    for e in g.entries() {
         total += key_count(e);
-        i += 1;
     }
     total
 }
 
-fn is_config_within(g: Config) -> bool
-    ensures { result ≡ config_within g }
+#[tactic(auto, unfolding(crate::specs::Counts::config_within))]
+fn is_config_within(g: &Config) -> bool
+    ensures { result ≡ config_within g.now }
 {
-    if SIGNER_LIMIT < g.count {
-        return false;
-    }
-    if !are_entries_within(g) {
-        return false;
-    }
-    key_total(g) <= (g.num_keys as usize)
+    g.count <= SIGNER_LIMIT && are_entries_within(g) && key_total(g) <= g.num_keys as usize
 }
 
-fn is_slot_within(s: ResponseSlot) -> bool
-    ensures { result ≡ slot_within s }
+#[tactic(auto, unfolding(crate::specs::Counts::slot_within))]
+fn is_slot_within(s: &ResponseSlot) -> bool
+    ensures { result ≡ slot_within s.now }
 {
-    if !s.held {
-        return true;
-    }
-    if LIST_LIMIT < s.key_ids {
-        return false;
-    }
-    s.nonces <= LIST_LIMIT
+    !s.held || (s.key_ids <= LIST_LIMIT && s.nonces <= LIST_LIMIT)
 }
 
-fn is_row_within(n: usize, row: SignRoundInfo) -> bool
-    requires { n ≤ signer_limit }
-    ensures { result ≡ row_within_limits n row }
+// Of the first n signers.
+fn are_slots_within(n: usize, row: &SignRoundInfo) -> bool
+    ensures { result ≡ every slot_within (take n row.now.slots) }
 {
-    if MESSAGE_LIMIT < row.message {
-        return false;
-    }
-    let slots = row.slots;
-    let mut i: usize = 0;
-    while i < n {
-        let s = slots[i];
-        if !is_slot_within(s) {
-            return false;
-        }
-        i += 1;
-    }
-    true
+    row.slots.iter().take(n).all(is_slot_within)
 }
 
-fn are_records_within(n: usize, records: Records) -> bool
-    requires { n ≤ signer_limit }
-    ensures { result ≡ records_within n records }
+#[tactic(auto, unfolding(crate::specs::Counts::row_within_limits))]
+fn is_row_within(n: usize, row: &SignRoundInfo) -> bool
+    ensures { result ≡ row_within_limits n row.now }
 {
-    let count = records.count;
-    if RECORD_LIMIT < count {
-        return false;
-    }
-    let rows = records.rows;
-    let mut i: usize = 0;
-    while i < count {
-        let row = rows[i];
-        if !is_row_within(n, row) {
-            return false;
-        }
-        i += 1;
-    }
-    true
+    row.message <= MESSAGE_LIMIT && are_slots_within(n, row)
+}
+
+fn are_rows_within(n: usize, records: &Records) -> bool
+    ensures { result ≡ every (row_within_limits n) (take records.now.count records.now.rows) }
+{
+    records.live().iter().all(|row| is_row_within(n, row))
+}
+
+#[tactic(auto, unfolding(crate::specs::Counts::records_within))]
+fn are_records_within(n: usize, records: &Records) -> bool
+    ensures { result ≡ records_within n records.now }
+{
+    records.count <= RECORD_LIMIT && are_rows_within(n, records)
 }
 
 // The key ids of a signer's shares, counted.
-fn share_keys(s: ShareSlot) -> usize
-    requires { s.count ≤ list_limit }
-    ensures { result ≡ sum (take s.count s.key_counts) }
+fn share_keys(s: &ShareSlot) -> usize
+    ensures { result ≡ sum (take s.now.count s.now.key_counts) }
 {
-    let count = s.count;
-    let counts = s.key_counts;
-    let mut total: usize = 0;
-    let mut i: usize = 0;
-    while i < count {
-        total += counts[i] as usize;
-        i += 1;
+    let mut total = 0;
+    for n in s.live() {
+        total += *n as usize;
     }
     total
 }
 
-fn is_share_slot_within(s: ShareSlot) -> bool
-    ensures { result ≡ shares_within s }
+#[tactic(auto, unfolding(crate::specs::Counts::shares_within))]
+fn is_share_slot_within(s: &ShareSlot) -> bool
+    ensures { result ≡ shares_within s.now }
 {
-    if !s.held {
-        return true;
-    }
-    if LIST_LIMIT < s.count {
-        return false;
-    }
-    share_keys(s) <= LIST_LIMIT
+    !s.held || (s.count <= LIST_LIMIT && share_keys(s) <= LIST_LIMIT)
 }
 
-fn are_shares_within(n: usize, shares: Shares) -> bool
-    requires { n ≤ signer_limit }
-    ensures { result ≡ every shares_within (take n shares.slots) }
+fn are_shares_within(n: usize, shares: &Shares) -> bool
+    ensures { result ≡ every shares_within (take n shares.now.slots) }
 {
-    let slots = shares.slots;
-    let mut i: usize = 0;
-    while i < n {
-        let s = slots[i];
-        if !is_share_slot_within(s) {
-            return false;
-        }
-        i += 1;
-    }
-    true
+    shares.slots.iter().take(n).all(is_share_slot_within)
 }
 
 // "its counts within these limits (4)?"
-pub fn is_within(s: Coordinator) -> bool
-    ensures { result ≡ is_within_limits s }
+#[tactic(auto, unfolding(crate::specs::Counts::is_within_limits))]
+pub fn is_within(s: &Coordinator) -> bool
+    ensures { result ≡ is_within_limits s.now }
 {
-    let config = s.config;
-    if !is_config_within(config) {
-        return false;
-    }
-    let message = s.message;
-    if MESSAGE_LIMIT < message.len {
-        return false;
-    }
-    let n = config.count;
-    let records = s.records;
-    if !are_records_within(n, records) {
-        return false;
-    }
-    let shares = s.shares;
-    are_shares_within(n, shares)
+    is_config_within(&s.config)
+        && s.message.len <= MESSAGE_LIMIT
+        && are_records_within(s.config.count, &s.records)
+        && are_shares_within(s.config.count, &s.shares)
 }

@@ -1,23 +1,20 @@
 // The coordinator's fields in fixed places: ten signers, four records, sixteen keys. Bytes of messages answered, key ids, nonces and
 // shares lie in the lent store.
+ghost use Rattle.std.specs.Prelude.{◌≡◌, ◌≤◌, length, take};
+ghost use Rattle.layout.specs.Limits.{message_limit, list_limit, signer_limit, record_limit};
+ghost use Rattle.state.specs.Counts.{entries};
+
 use layout::{Ids, LIST_LIMIT, MESSAGE_LIMIT, RECORD_LIMIT, SIGNER_LIMIT, SignerId};
 use state_table::State;
 use validity::keys::KeyIds;
 
-// A clock reading or a timeout in nanoseconds, or none.
-#[derive(Clone, Copy)]
-pub enum Reading {
-    Never,
-    At(u64),
-}
-
 #[derive(Clone, Copy)]
 pub struct Timeouts {
-    pub dkg_public: Reading,
-    pub dkg_private: Reading,
-    pub dkg_end: Reading,
-    pub nonce: Reading,
-    pub sign: Reading,
+    pub dkg_public: Option<u64>,
+    pub dkg_private: Option<u64>,
+    pub dkg_end: Option<u64>,
+    pub nonce: Option<u64>,
+    pub sign: Option<u64>,
 }
 
 // A configured signer, with or without a key set.
@@ -39,6 +36,16 @@ pub struct Config {
     pub signers: [SignerEntry; SIGNER_LIMIT],
     pub count: usize,
     pub verify_packet_sigs: bool,
+}
+
+impl Config {
+    // The live signers, whatever the count.
+    #[tactic(auto, unfolding(crate::specs::Counts::entries))]
+    pub fn entries(&self) -> &[SignerEntry]
+        ensures { (result.now ≡ entries self.now) × (length result.now ≤ signer_limit) }
+    {
+        &self.signers[..self.count.min(SIGNER_LIMIT)]
+    }
 }
 
 // What is known of one signer's response to one message; its lists lie in the store. clock: the reading of the call that brought it.
@@ -65,12 +72,30 @@ pub struct Records {
     pub count: usize,
 }
 
+impl Records {
+    // The live records, whatever the count.
+    pub fn live(&self) -> &[SignRoundInfo]
+        ensures { (result.now ≡ take self.now.count self.now.rows) × (length result.now ≤ record_limit) }
+    {
+        &self.rows[..self.count.min(RECORD_LIMIT)]
+    }
+}
+
 // One signer's shares: how many, and how many key ids each has.
 #[derive(Clone, Copy)]
 pub struct ShareSlot {
     pub held: bool,
     pub count: usize,
     pub key_counts: [u8; LIST_LIMIT],
+}
+
+impl ShareSlot {
+    // How many key ids each of the shares has.
+    pub fn live(&self) -> &[u8]
+        ensures { (result.now ≡ take self.now.count self.now.key_counts) × (length result.now ≤ list_limit) }
+    {
+        &self.key_counts[..self.count.min(LIST_LIMIT)]
+    }
 }
 
 #[derive(Clone, Copy)]
@@ -97,10 +122,19 @@ pub struct Message {
     pub len: usize,
 }
 
+impl Message {
+    // The message itself, whatever the length.
+    pub fn live(&self) -> &[u8]
+        ensures { (result.now ≡ take self.now.len self.now.bytes) × (length result.now ≤ message_limit) }
+    {
+        &self.bytes[..self.len.min(MESSAGE_LIMIT)]
+    }
+}
+
 #[derive(Clone, Copy)]
 pub struct Clocks {
-    pub nonce_start: Reading,
-    pub sign_start: Reading,
+    pub nonce_start: Option<u64>,
+    pub sign_start: Option<u64>,
 }
 
 #[derive(Clone, Copy)]

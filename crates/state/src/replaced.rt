@@ -11,8 +11,10 @@ pub fn with_message(old: Message, message: &[u8]) -> Message
 {
     let mut bytes = old.bytes;
     wire::copy(&mut bytes, 0, message);
-    let len = message.len();
-    Message { bytes, len }
+    Message {
+        bytes,
+        len: message.len(),
+    }
 }
 
 pub fn no_shares() -> Shares

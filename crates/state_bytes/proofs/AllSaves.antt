@@ -1,5 +1,7 @@
 -- Every value of the struct's type can be saved: its numbers fit their bytes, its arrays have their lengths.
 -- Assumes nothing.
+use Rattle.state.specs.Clock.{Reading}
+use Rattle.std.specs.Prelude.{None, Some}
 use Prim.Native.Nat.{ℕ}
 use mathlib.Core.Path.{◌≡◌}
 use mathlib.Core.Bool.{Bool}
@@ -11,15 +13,15 @@ use mir.Val.{Val}
 use denote.Array.{each as each_of}
 use denote.Laws.{Is}
 use denote.Shadow.{shadow}
+use denote.Builtin.{u64}
 use denote.Struct.Declared.{Declared, row}
+use Rattle.std.specs.contracts.option.Option as option
 use Rattle.wire.specs.Bytes.{All}
 use Rattle.layout.specs.Limits.{message_limit, list_limit, signer_limit, record_limit}
 use Rattle.layout.specs.declared.Ids.{Ids}
 use Rattle.layout.specs.declared.KeyId.{KeyId}
 use Rattle.layout.specs.contracts.Ids as Ids-row
 use Rattle.layout.specs.contracts.KeyId as KeyId-row
-use Rattle.state.specs.declared.fields.Reading.{Reading}
-use Rattle.state.specs.declared.fields.Reading.TheVariants.{Never, At}
 use Rattle.state.specs.declared.fields.Timeouts.{Timeouts}
 use Rattle.state.specs.declared.fields.SignerEntry.{SignerEntry}
 use Rattle.state.specs.declared.fields.Config.{Config}
@@ -32,7 +34,6 @@ use Rattle.state.specs.declared.fields.Position.{Position}
 use Rattle.state.specs.declared.fields.Message.{Message}
 use Rattle.state.specs.declared.fields.Clocks.{Clocks}
 use Rattle.state.specs.declared.fields.Coordinator.{Coordinator}
-use Rattle.state.specs.contracts.fields.Reading as Reading-row
 use Rattle.state.specs.contracts.fields.Timeouts as Timeouts-row
 use Rattle.state.specs.contracts.fields.SignerEntry as SignerEntry-row
 use Rattle.state.specs.contracts.fields.Config as Config-row
@@ -79,10 +80,10 @@ pub ids_fit : (i : Ids) (vs : List Val) → Is Ids-row.the_row i vs → ids_form
 unfolding ids_form pieces
 ids_fit i vs g = (g.1.1.0.1, (g.1.1.1.0.1, (g.1.1.1.1.0.1, tt)))
 
-pub reading-fits : (r : Reading) (vs : List Val) → Is Reading-row.the_row r vs → reading_form.Fits r
+pub reading-fits : (r : Reading) (vs : List Val) → Is (option.the_row u64) r vs → reading_form.Fits r
 unfolding reading_form reading_parts pieces
-reading-fits Never vs g = (tt, (omega arith, tt))
-reading-fits (At n) vs g = (tt, (g.1.1.1.1.0.1, tt))
+reading-fits None vs g = (tt, (omega arith, tt))
+reading-fits (Some n) vs g = (tt, (g.1.1.1.1.0.1, tt))
 
 pub timeouts_fit : (t : Timeouts) (vs : List Val) → Is Timeouts-row.the_row t vs → timeouts_form.Fits t
 unfolding timeouts_form pieces
@@ -202,15 +203,3 @@ all_saves s vs g =
         ),
       ),
     )
-
--- an array that a function is given: its length and what is known of each element
-pub given_fits :
-    {A : Type 0} (G : Form A) (n : ℕ) (own : A → List Val → Fml) → ((x : A) (vs : List Val) → shadow (own x vs) → G.Fits x) → (xs : List A) (us : List Val)
-    → length xs ≡ n → shadow (each_of A own xs us) → (each n G).Fits xs
-unfolding pieces
-given_fits {A} G n own h xs us e g = (e, all xs us g)
-  where
-    all : (xs : List A) (us : List Val) → shadow (each_of A own xs us) → All G.Fits xs
-    all [] us g = tt
-    all (x ∷ xs) [] g = absurd g
-    all (x ∷ xs) (u ∷ us) g = (h x (u ∷ []) g.0, all xs us g.1)

@@ -1,5 +1,7 @@
 -- Each form of the description is lawful, because its pieces are: a field more or less asks for no line here.
 -- Assumes nothing.
+use Rattle.state.specs.Clock.{Reading}
+use Rattle.std.specs.Prelude.{None, Some}
 use Prim.Native.Nat.{ℕ, zero, suc, ◌<◌, ◌^◌}
 use mathlib.Core.Path.{◌≡◌, refl, sym, ap}
 use mathlib.Core.Bool.{Bool, true, false}
@@ -20,12 +22,10 @@ use Rattle.state_table.specs.declared.State.TheVariants.{DkgPrivateDistribute, D
 use Rattle.state_table.specs.declared.State.TheVariants.{DkgPrivateSharesDoneDistribute, DkgPrivateSharesDoneGather}
 use Rattle.state_table.specs.declared.State.TheVariants.{DkgEndDistribute, DkgEndGather}
 use Rattle.state_table.specs.declared.State.TheVariants.{NonceRequest, NonceGather, SigShareRequest, SigShareGather}
-use Rattle.state_table.specs.declared.StateType.{StateType}
-use Rattle.state_table.specs.declared.StateType.TheVariants.{Untyped, Typed}
-use Rattle.state_table.specs.States.{state_number, type_in}
+use Rattle.state_table.specs.States.{state_number, type_in, StateType}
 use Rattle.state_table.proofs.Table.{state_below}
-use Rattle.state.specs.declared.fields.Reading.{Reading}
-use Rattle.state.specs.declared.fields.Reading.TheVariants.{Never, At}
+use Rattle.state.specs.declared.fields.Timeouts.{Timeouts}
+use Rattle.state.specs.declared.fields.Clocks.{Clocks}
 use Rattle.form.specs.Form.{Like, pieces, digest}
 use Rattle.form.proofs.Lawful.{Lawful, Alike, Faithful, number_lawful, byte_lawful, flag_lawful, bytes_lawful, constant_lawful}
 use Rattle.form.proofs.Lawful.{each_lawful, field_kept, end_kept, tuple_lawful, like_lawful, enum_lawful}
@@ -55,8 +55,8 @@ reading-fits true n f = f
 reading-fits false n f = omega arith
 
 same_reading : (r : Reading) → reading_code.value (reading_code.coded r) ≡ r
-same_reading Never = refl
-same_reading (At n) = refl
+same_reading None = refl
+same_reading (Some n) = refl
 
 reading_faithful : Faithful reading_code reading_parts
 unfolding reading_parts pieces
@@ -102,11 +102,11 @@ pub byte-state : (x : State) → state_number x < 256
 byte-state x = omega (arith, state_below x)
 
 pub byte_type : (t : StateType) → saved_type t < 256
-byte_type Untyped = omega arith
-byte_type (Typed Frost) = omega arith
-byte_type (Typed Schnorr) = omega arith
-byte_type (Typed Taproot) = omega arith
-byte_type (Typed TaprootRoot) = omega arith
+byte_type None = omega arith
+byte_type (Some Frost) = omega arith
+byte_type (Some Schnorr) = omega arith
+byte_type (Some Taproot) = omega arith
+byte_type (Some TaprootRoot) = omega arith
 
 state_faithful : Faithful state_code state_parts
 unfolding state_parts pieces
@@ -200,7 +200,7 @@ pub described : get_or digests 0 0 ≡ digest coordinator_form
 unfolding description
 described = refl
 
--- a reading and ids take their width whether their numbers fit or not
+-- readings and ids take their width whether their numbers fit or not
 pub reading-long : (r : Reading) → length (reading_form.save r) ≡ reading_form.width
 unfolding reading_form reading_parts pieces
 reading-long r = simp (length-append, length-le)
@@ -208,3 +208,11 @@ reading-long r = simp (length-append, length-le)
 pub ids-long : (i : Ids) → length (ids_form.save i) ≡ ids_form.width
 unfolding ids_form pieces
 ids-long i = simp (length-append, length-le)
+
+pub timeouts-long : (t : Timeouts) → length (timeouts_form.save t) ≡ timeouts_form.width
+unfolding timeouts_form reading_form reading_parts pieces
+timeouts-long t = simp (length-append, length-le)
+
+pub clocks-long : (c : Clocks) → length (clocks_form.save c) ≡ clocks_form.width
+unfolding clocks_form reading_form reading_parts pieces
+clocks-long c = simp (length-append, length-le)

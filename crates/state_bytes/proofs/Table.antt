@@ -13,9 +13,9 @@ pub record Tabled (f : Flags) : Type 0 where
   pub whole : joined (map bytes_of (fields f)) ≡ saved (struct f)
 
 pub saved-table : All Tabled three_flags
-unfolding joined saved saved_each description
+unfolding saved saved_each description
 saved-table = (record { whole = refl }, (record { whole = refl }, (record { whole = refl }, tt)))
 
 pub saved-states : map state_saved states ≡ states
-unfolding joined description state_saved states
+unfolding description state_saved states
 saved-states = refl

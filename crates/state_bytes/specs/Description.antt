@@ -1,6 +1,7 @@
 -- The coordinator's state as bytes, described once: the fields in the order of the struct, each with its form. What a save writes, where
 -- each field stands, what bytes say and whether a save left them follow from this (form, Form.antt).
-use Rattle.std.specs.Prelude.{ℕ, Bool, true, false, cond, not, ◌&&◌, ◌||◌, List, [], eqb}
+use Rattle.state.specs.Clock.{Reading}
+use Rattle.std.specs.Prelude.{ℕ, Bool, true, false, cond, not, ◌&&◌, ◌||◌, List, [], eqb, None, Some}
 use Rattle.wire.specs.Bytes.{le}
 use Rattle.layout.specs.Limits.{message_limit, list_limit, signer_limit, record_limit}
 use Rattle.layout.specs.declared.KeyId.{KeyId}
@@ -15,11 +16,7 @@ use Rattle.state_table.specs.declared.State.TheVariants.{DkgPrivateDistribute, D
 use Rattle.state_table.specs.declared.State.TheVariants.{DkgPrivateSharesDoneDistribute, DkgPrivateSharesDoneGather}
 use Rattle.state_table.specs.declared.State.TheVariants.{DkgEndDistribute, DkgEndGather}
 use Rattle.state_table.specs.declared.State.TheVariants.{NonceRequest, NonceGather, SigShareRequest, SigShareGather}
-use Rattle.state_table.specs.declared.StateType.{StateType}
-use Rattle.state_table.specs.declared.StateType.TheVariants.{Untyped, Typed}
-use Rattle.state_table.specs.States.{state_number, type_in}
-use Rattle.state.specs.declared.fields.Reading.{Reading}
-use Rattle.state.specs.declared.fields.Reading.TheVariants.{Never, At}
+use Rattle.state_table.specs.States.{state_number, type_in, StateType}
 use Rattle.state.specs.declared.fields.Timeouts.{Timeouts}
 use Rattle.state.specs.declared.fields.SignerEntry.{SignerEntry}
 use Rattle.state.specs.declared.fields.Config.{Config}
@@ -39,18 +36,18 @@ use Rattle.state_bytes.specs.Version.{mark, version}
 
 -- a clock reading or a timeout: whether there is one, and the number, 0 where there is none
 abbrev given : Reading → Bool
-given Never = false
-given (At n) = true
+given None = false
+given (Some n) = true
 
 abbrev nanoseconds : Reading → ℕ
-nanoseconds Never = 0
-nanoseconds (At n) = n
+nanoseconds None = 0
+nanoseconds (Some n) = n
 
 abbrev pub reading_code : Code Reading (Bool × (ℕ × Unit {0}))
 reading_code =
     record {
       coded = λ r. given r & nanoseconds r & tt;
-      value = λ t. cond t.0 (At t.1.0) Never;
+      value = λ t. cond t.0 (Some t.1.0) None;
       told = λ t. t.0 || eqb t.1.0 0;
     }
 
@@ -145,8 +142,8 @@ ids_form =
 
 -- a state is its number in the Rust's order and the number of its type, 0 where it has none
 abbrev pub saved_type : StateType → ℕ
-saved_type Untyped = 0
-saved_type (Typed t) = type_number t
+saved_type None = 0
+saved_type (Some t) = type_number t
 
 -- the state of a number and a type; a number that no state has stands for the last
 unfoldable pub state_for : ℕ → SignatureType → State

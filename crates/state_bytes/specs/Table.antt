@@ -1,6 +1,6 @@
 -- The saved form as a table: each field's name and its bytes, for a struct with a value of its own in each field. The bytes of the table
 -- one after the other are all that is saved, so each field stands after the bytes of those before it.
-use Rattle.std.specs.Prelude.{ℕ, ◌+◌, Bool, true, false, List, [], ◌∷◌, ◌++◌, take, replicate}
+use Rattle.std.specs.Prelude.{ℕ, ◌+◌, Bool, true, false, List, [], ◌∷◌, ◌++◌, take, replicate, None, Some}
 use Prim.Native.String.{String}
 use Rattle.wire.specs.Bytes.{joined}
 use Rattle.layout.specs.declared.Ids.{Ids}
@@ -13,7 +13,6 @@ use Rattle.state_table.specs.declared.State.TheVariants.{DkgPrivateSharesDoneDis
 use Rattle.state_table.specs.declared.State.TheVariants.{DkgEndDistribute, DkgEndGather}
 use Rattle.state_table.specs.declared.State.TheVariants.{NonceRequest, NonceGather, SigShareRequest, SigShareGather}
 use Rattle.validity.specs.Keys.{key_of}
-use Rattle.state.specs.declared.fields.Reading.TheVariants.{Never, At}
 use Rattle.state.specs.declared.fields.SignerEntry.{SignerEntry}
 use Rattle.state.specs.declared.fields.Config.{Config}
 use Rattle.state.specs.declared.fields.ResponseSlot.{ResponseSlot}
@@ -64,11 +63,11 @@ config verify =
       dkg_threshold = n4 14;
       sign_threshold = n4 15;
       timeouts = record {
-        dkg_public = At (n8 21);
-        dkg_private = Never;
-        dkg_end = At (n8 23);
-        nonce = At (n8 24);
-        sign = At (n8 25);
+        dkg_public = Some (n8 21);
+        dkg_private = None;
+        dkg_end = Some (n8 23);
+        nonce = Some (n8 24);
+        sign = Some (n8 25);
       };
       signers = entry 31 true 32 33 34 ∷ entry 35 false 36 37 38 ∷ replicate 8 (entry 0 false 0 0 0);
       count = n8 39;
@@ -102,7 +101,7 @@ struct f =
       };
       shares = record { slots = shares true 91 92 ∷ shares false 94 95 ∷ replicate 8 (shares false 0 0) };
       marks = record { ended = true ∷ true ∷ replicate 8 false; malicious = false ∷ true ∷ replicate 8 true };
-      clocks = record { nonce_start = At (n8 101); sign_start = At (n8 102) };
+      clocks = record { nonce_start = Some (n8 101); sign_start = Some (n8 102) };
       keys = record { coordinator = f.coordinator; aggregate = f.aggregate };
       job = f.job;
     }

@@ -1,5 +1,6 @@
 -- The table and the rule: a move is accepted where the table's entry says so and the types agree.
 -- Assumes nothing.
+use Rattle.std.specs.Prelude.{None, Some}
 use Prim.Native.Nat.{ℕ, ◌<◌}
 use mathlib.Core.Path.{◌≡◌, refl, sym, ap}
 use mathlib.Core.Bool.{Bool, true, false, ◌&&◌, ◌||◌, and-true, false≢true}
@@ -9,9 +10,7 @@ use lib.ListN.{get_or}
 use Rattle.layout.specs.declared.SignatureType.TheVariants.{Frost}
 use Rattle.state_table.specs.declared.State.{State}
 use Rattle.state_table.specs.declared.State.TheVariants.{Idle, DkgPublicDistribute, DkgPublicGather, DkgPublicSharesDoneDistribute, DkgPublicSharesDoneGather, DkgPrivateDistribute, DkgPrivateGather, DkgPrivateSharesDoneDistribute, DkgPrivateSharesDoneGather, DkgEndDistribute, DkgEndGather, NonceRequest, NonceGather, SigShareRequest, SigShareGather}
-use Rattle.state_table.specs.declared.StateType.{StateType}
-use Rattle.state_table.specs.declared.StateType.TheVariants.{Untyped, Typed}
-use Rattle.state_table.specs.States.{Position, state_number, type_in, same_type, types_agree, same}
+use Rattle.state_table.specs.States.{Position, state_number, type_in, same_type, types_agree, same, StateType}
 use Rattle.state_table.specs.Moves.{accepted, can_move_to, states, allowed}
 
 -- the state that stands for s in `states`
@@ -21,8 +20,8 @@ rep s = get_or states (state_number s) Idle
 -- what is the same of a state and of the one that stands for it: its number; and one that lets a request follow whatever the type has none
 record Stands (s : State) : Type 0 where
   number : state_number (rep s) ≡ state_number s
-  agrees : types_agree (type_in (rep s)) [] (Typed Frost) [] ≡ true
-  free : (eqb (state_number s) 0 || eqb (state_number s) 10) ≡ true → type_in s ≡ Untyped
+  agrees : types_agree (type_in (rep s)) [] (Some Frost) [] ≡ true
+  free : (eqb (state_number s) 0 || eqb (state_number s) 10) ≡ true → type_in s ≡ None
   below : state_number s < 15
 
 stands : (s : State) → Stands s
@@ -74,10 +73,10 @@ table_rule DkgEndDistribute root p = simp (and-true, (stands p.state).number)
 table_rule DkgEndGather root p = simp (and-true, (stands p.state).number)
 table_rule (NonceRequest t) root p =
     simp (and-true, (stands p.state).number, (stands p.state).agrees)
-    (free_or (eqb (state_number p.state) 0 || eqb (state_number p.state) 10) (eqb (state_number p.state) 14) (types_agree (type_in p.state) p.root (Typed t) root) (λ e. ap (λ (a : StateType). types_agree a p.root (Typed t) root) ((stands p.state).free e)))
-table_rule (NonceGather t) root p = simp (and-true, (stands p.state).number, (stands p.state).agrees) (or_and (eqb (state_number p.state) 11) (eqb (state_number p.state) 12) (types_agree (type_in p.state) p.root (Typed t) root))
+    (free_or (eqb (state_number p.state) 0 || eqb (state_number p.state) 10) (eqb (state_number p.state) 14) (types_agree (type_in p.state) p.root (Some t) root) (λ e. ap (λ (a : StateType). types_agree a p.root (Some t) root) ((stands p.state).free e)))
+table_rule (NonceGather t) root p = simp (and-true, (stands p.state).number, (stands p.state).agrees) (or_and (eqb (state_number p.state) 11) (eqb (state_number p.state) 12) (types_agree (type_in p.state) p.root (Some t) root))
 table_rule (SigShareRequest t) root p = simp (and-true, (stands p.state).number, (stands p.state).agrees)
-table_rule (SigShareGather t) root p = simp (and-true, (stands p.state).number, (stands p.state).agrees) (or_and (eqb (state_number p.state) 13) (eqb (state_number p.state) 14) (types_agree (type_in p.state) p.root (Typed t) root))
+table_rule (SigShareGather t) root p = simp (and-true, (stands p.state).number, (stands p.state).agrees) (or_and (eqb (state_number p.state) 13) (eqb (state_number p.state) 14) (types_agree (type_in p.state) p.root (Some t) root))
 
 -- a move is accepted where the table's entry says so and the types agree
 pub move-table : (p q : Position) → can_move_to p q ≡ (allowed (state_number p.state) (state_number q.state) && types_agree (type_in p.state) p.root (type_in q.state) q.root)

@@ -1,5 +1,5 @@
 -- States, the types that they carry, and when fire.rs finds two of them equal.
-use Rattle.std.specs.Prelude.{ℕ, Bool, true, cond, ◌&&◌, List, eqb}
+use Rattle.std.specs.Prelude.{ℕ, Bool, true, cond, ◌&&◌, List, eqb, Option, None, Some}
 use Rattle.wire.specs.Bytes.{are_same_bytes}
 use Rattle.layout.specs.declared.SignatureType.{SignatureType}
 use Rattle.layout.specs.Types.{type_number}
@@ -10,8 +10,6 @@ use Rattle.state_table.specs.declared.State.TheVariants.{DkgPrivateDistribute, D
 use Rattle.state_table.specs.declared.State.TheVariants.{DkgPrivateSharesDoneDistribute, DkgPrivateSharesDoneGather}
 use Rattle.state_table.specs.declared.State.TheVariants.{DkgEndDistribute, DkgEndGather}
 use Rattle.state_table.specs.declared.State.TheVariants.{NonceRequest, NonceGather, SigShareRequest, SigShareGather}
-use Rattle.state_table.specs.declared.StateType.{StateType}
-use Rattle.state_table.specs.declared.StateType.TheVariants.{Untyped, Typed}
 
 -- "A gathering state carries its signature type; the root lies beside it."
 pub record Position : Type 0 where
@@ -20,6 +18,10 @@ pub record Position : Type 0 where
 
 abbrev pub position : State → List ℕ → Position
 position s root = record { state = s; root = root }
+
+-- the type that a state carries
+abbrev pub StateType : Type 0
+StateType = Option SignatureType
 
 -- the Rust's order
 abbrev pub state_number : State → ℕ
@@ -40,21 +42,21 @@ state_number (SigShareRequest t) = 13
 state_number (SigShareGather t) = 14
 
 abbrev pub type_in : State → StateType
-type_in Idle = Untyped
-type_in DkgPublicDistribute = Untyped
-type_in DkgPublicGather = Untyped
-type_in DkgPublicSharesDoneDistribute = Untyped
-type_in DkgPublicSharesDoneGather = Untyped
-type_in DkgPrivateDistribute = Untyped
-type_in DkgPrivateGather = Untyped
-type_in DkgPrivateSharesDoneDistribute = Untyped
-type_in DkgPrivateSharesDoneGather = Untyped
-type_in DkgEndDistribute = Untyped
-type_in DkgEndGather = Untyped
-type_in (NonceRequest t) = Typed t
-type_in (NonceGather t) = Typed t
-type_in (SigShareRequest t) = Typed t
-type_in (SigShareGather t) = Typed t
+type_in Idle = None
+type_in DkgPublicDistribute = None
+type_in DkgPublicGather = None
+type_in DkgPublicSharesDoneDistribute = None
+type_in DkgPublicSharesDoneGather = None
+type_in DkgPrivateDistribute = None
+type_in DkgPrivateGather = None
+type_in DkgPrivateSharesDoneDistribute = None
+type_in DkgPrivateSharesDoneGather = None
+type_in DkgEndDistribute = None
+type_in DkgEndGather = None
+type_in (NonceRequest t) = Some t
+type_in (NonceGather t) = Some t
+type_in (SigShareRequest t) = Some t
+type_in (SigShareGather t) = Some t
 
 -- SignatureType's ==, "a Taproot root included"; the root beside another type is not compared
 unfoldable pub same_type : SignatureType → List ℕ → SignatureType → List ℕ → Bool
@@ -62,9 +64,9 @@ same_type t root t' root' = eqb (type_number t) (type_number t') && cond (eqb (t
 
 -- the types of two states, where both carry one
 unfoldable pub types_agree : StateType → List ℕ → StateType → List ℕ → Bool
-types_agree a root Untyped root' = true
-types_agree Untyped root (Typed t') root' = true
-types_agree (Typed t) root (Typed t') root' = same_type t root t' root'
+types_agree a root None root' = true
+types_agree None root (Some t') root' = true
+types_agree (Some t) root (Some t') root' = same_type t root t' root'
 
 -- State's ==: the same case, with the same type
 unfoldable pub same : Position → Position → Bool

@@ -27,13 +27,6 @@ pub enum State {
     SigShareGather(SignatureType),
 }
 
-// The type that a state carries.
-#[derive(Clone, Copy)]
-pub enum StateType {
-    Untyped,
-    Typed(SignatureType),
-}
-
 // A row for each previous state, an answer for each next state, both in the order of State. Where both states carry a type, the types
 // are compared besides.
 const TABLE: [[bool; 15]; 15] = [
@@ -138,25 +131,25 @@ pub fn state_number(s: State) -> usize
 }
 
 // The type that a state carries.
-pub fn type_in(s: State) -> StateType
+pub fn type_in(s: State) -> Option<SignatureType>
     ensures { result ≡ type_in s }
 {
     match s {
-        State::Idle => StateType::Untyped,
-        State::DkgPublicDistribute => StateType::Untyped,
-        State::DkgPublicGather => StateType::Untyped,
-        State::DkgPublicSharesDoneDistribute => StateType::Untyped,
-        State::DkgPublicSharesDoneGather => StateType::Untyped,
-        State::DkgPrivateDistribute => StateType::Untyped,
-        State::DkgPrivateGather => StateType::Untyped,
-        State::DkgPrivateSharesDoneDistribute => StateType::Untyped,
-        State::DkgPrivateSharesDoneGather => StateType::Untyped,
-        State::DkgEndDistribute => StateType::Untyped,
-        State::DkgEndGather => StateType::Untyped,
-        State::NonceRequest(t) => StateType::Typed(t),
-        State::NonceGather(t) => StateType::Typed(t),
-        State::SigShareRequest(t) => StateType::Typed(t),
-        State::SigShareGather(t) => StateType::Typed(t),
+        State::Idle => None,
+        State::DkgPublicDistribute => None,
+        State::DkgPublicGather => None,
+        State::DkgPublicSharesDoneDistribute => None,
+        State::DkgPublicSharesDoneGather => None,
+        State::DkgPrivateDistribute => None,
+        State::DkgPrivateGather => None,
+        State::DkgPrivateSharesDoneDistribute => None,
+        State::DkgPrivateSharesDoneGather => None,
+        State::DkgEndDistribute => None,
+        State::DkgEndGather => None,
+        State::NonceRequest(t) => Some(t),
+        State::NonceGather(t) => Some(t),
+        State::SigShareRequest(t) => Some(t),
+        State::SigShareGather(t) => Some(t),
     }
 }
 
@@ -174,14 +167,19 @@ pub fn is_same_type(a: SignatureType, a_root: [u8; 32], b: SignatureType, b_root
     wire::same(&a_root, &b_root)
 }
 
-fn are_types_same(a: StateType, a_root: [u8; 32], b: StateType, b_root: [u8; 32]) -> bool
+fn are_types_same(
+    a: Option<SignatureType>,
+    a_root: [u8; 32],
+    b: Option<SignatureType>,
+    b_root: [u8; 32],
+) -> bool
     ensures { result ≡ types_agree a a_root b b_root }
 {
     match b {
-        StateType::Untyped => true,
-        StateType::Typed(next) => match a {
-            StateType::Untyped => true,
-            StateType::Typed(prev) => is_same_type(prev, a_root, next, b_root),
+        None => true,
+        Some(next) => match a {
+            None => true,
+            Some(prev) => is_same_type(prev, a_root, next, b_root),
         },
     }
 }

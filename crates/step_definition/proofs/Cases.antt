@@ -2,7 +2,7 @@
 -- Assumes nothing.
 use mathlib.Core.Path.{◌≡◌, refl}
 use mathlib.Core.Bool.{Bool, true, false, cond}
-use mathlib.Core.Option.{Option, some, none}
+use Rattle.std.specs.Prelude.{Option, Some, None}
 use Rattle.step_definition.specs.Lists.{given}
 
 pub cond_case : {A : Type 0} (P : A → Type 0) (t : Bool) {a b : A} → (t ≡ true → P a) → (t ≡ false → P b) → P (cond t a b)
@@ -18,10 +18,10 @@ cond_image f true p q = p
 cond_image f false p q = q
 
 pub given_case :
-    {A B : Type 0} (P : B → Type 0) (o : Option A) {f : A → B} {b : B} → ((a : A) → o ≡ some a → P (f a)) → (o ≡ none → P b)
+    {A B : Type 0} (P : B → Type 0) (o : Option A) {f : A → B} {b : B} → ((a : A) → o ≡ Some a → P (f a)) → (o ≡ None → P b)
     → P (given o f b)
-given_case P none f g = g refl
-given_case P (some a) f g = f a refl
+given_case P None f g = g refl
+given_case P (Some a) f g = f a refl
 
 pub given_both : {A B : Type 0} (P : B → Type 0) (o : Option A) {f : A → B} {b : B} → ((a : A) → P (f a)) → P b → P (given o f b)
 given_both P o f g = given_case P o (λ a e. f a) (λ e. g)

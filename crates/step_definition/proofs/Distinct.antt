@@ -15,13 +15,11 @@ use Rattle.step_definition.specs.Whole.{NoneTwice}
 
 -- a member stands somewhere, and what stands somewhere is a member
 pub member_at : (x : ℕ) (ks : List ℕ) (j : ℕ) → j < length ks → x ≡ get_or ks j 0 → member x ks ≡ true
-unfolding member
 member_at x [] j l e = let z : ⊥ = omega arith in absurd z
 member_at x (k ∷ ks) zero l e = rw (eq-eqb x k e)
 member_at x (k ∷ ks) (suc j) l e = rw (member_at x ks j (omega arith) e) (or-true (eqb x k))
 
 no_member : (x : ℕ) (ks : List ℕ) → ((j : ℕ) → j < length ks → x ≡ get_or ks j 0 → ⊥) → member x ks ≡ false
-unfolding member
 no_member x [] n = refl
 no_member x (k ∷ ks) n = by (eqb x k) refl (no_member x ks (λ j l. n (suc j) (omega arith)))
   where

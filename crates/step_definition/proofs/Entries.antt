@@ -5,7 +5,7 @@ use Prim.Native.Nat.{ℕ}
 use mathlib.Core.Path.{◌≡◌, refl, sym, ap}
 use mathlib.Core.Bool.{Bool, true, false, cond, false≢true}
 use mathlib.Core.List.{List, [], ◌∷◌, map}
-use mathlib.Core.Option.{Option, some, none}
+use Rattle.std.specs.Prelude.{Option, Some, None}
 use lib.ListN.{length}
 use borrow.Author.Tests.{eqb-true, not-true}
 use Rattle.wire.specs.Bytes.{are_same_bytes, All}
@@ -35,9 +35,9 @@ same_ids_law a b h =
     let i : a.sign_iter_id ≡ b.sign_iter_id = eqb-true _ _ (search (and_left, and_right)) in
     λ j. record { dkg_id = d j; sign_id = s j; sign_iter_id = i j }
 
-is_some_law : {A : Type 0} (o : Option A) → is_some o ≡ true → (a : A) × (o ≡ some a)
-is_some_law none e = absurd (false≢true e)
-is_some_law (some a) e = (a, refl)
+is_some_law : {A : Type 0} (o : Option A) → is_some o ≡ true → (a : A) × (o ≡ Some a)
+is_some_law None e = absurd (false≢true e)
+is_some_law (Some a) e = (a, refl)
 
 module _ (o : Opened) where
   -- a response as demand 3 says
@@ -76,15 +76,15 @@ module _ (o : Opened) where
 
   -- the entry that a call makes
   pub data GoodEntry : Option NonceResponse → Type 0 where
-    nothing_entered : GoodEntry none
-    is_entered : {q : NonceResponse} → Signed q → GoodEntry (some q)
+    nothing_entered : GoodEntry None
+    is_entered : {q : NonceResponse} → Signed q → GoodEntry (Some q)
 
   entry_branch : {t : Bool} {a b : Option NonceResponse} → (t ≡ true → GoodEntry a) → (t ≡ false → GoodEntry b) → GoodEntry (cond t a b)
   entry_branch {t = t} = cond_case GoodEntry t
 
   when_good : (l : ResponseLog) (k : Call) (entry : Entry) (q : Option NonceResponse) → GoodEntry (when (enters o l k entry) q)
-  when_good l k entry none = nothing_entered
-  when_good l k entry (some q) = entry_branch (λ e. is_entered (enters_signed l k entry q e)) (λ e. nothing_entered)
+  when_good l k entry None = nothing_entered
+  when_good l k entry (Some q) = entry_branch (λ e. is_entered (enters_signed l k entry q e)) (λ e. nothing_entered)
 
   pub entry_good : (l : ResponseLog) (k : Call) (b : Brought) → GoodEntry (entry_of o l k b)
   unfolding entry_of
@@ -117,7 +117,6 @@ module _ (o : Opened) where
 
   -- the entries for a message
   pub entries_good : (m : List ℕ) (ps : List Page) → GoodPages ps → GoodPage (record { message = m; entries = entries_for m ps })
-  unfolding find
   entries_good m [] a = record { entries = tt; signers = tt }
   entries_good m (p ∷ ps) a =
       cond_case (λ (f : Option Page). GoodPage (record { message = m; entries = given f (λ (p : Page). p.entries) [] }))
@@ -138,7 +137,6 @@ abbrev pub pages_of : List SignRoundInfo → List Page
 pages_of rs = map page_of rs
 
 pub has_page_law : (m : List ℕ) (rs : List SignRoundInfo) → has_page m (pages_of rs) ≡ is_some (record_of m rs)
-unfolding find
 has_page_law m [] = refl
 has_page_law m (r ∷ rs) =
     cond_case (λ (f : Option Page). is_some f ≡ is_some (record_of m (r ∷ rs))) (are_same_bytes m r.message)
@@ -146,7 +144,6 @@ has_page_law m (r ∷ rs) =
     (λ e. rw e (has_page_law m rs))
 
 pub entries_for_law : (m : List ℕ) (rs : List SignRoundInfo) → entries_for m (pages_of rs) ≡ responses_of (record_of m rs)
-unfolding find
 entries_for_law m [] = refl
 entries_for_law m (r ∷ rs) =
     cond_case (λ (f : Option Page). given f (λ (p : Page). p.entries) [] ≡ responses_of (record_of m (r ∷ rs))) (are_same_bytes m r.message)

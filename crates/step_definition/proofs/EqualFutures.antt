@@ -5,7 +5,7 @@ use Prim.Native.Nat.{ℕ}
 use mathlib.Core.Path.{◌≡◌, refl, sym, ap, ◌∙◌}
 use mathlib.Core.Bool.{Bool, true, false, cond, false≢true}
 use mathlib.Core.List.{List, [], ◌∷◌}
-use mathlib.Core.Option.{Option, some, none}
+use Rattle.std.specs.Prelude.{Option, Some, None}
 use Rattle.layout.specs.declared.SignatureType.{SignatureType}
 use Rattle.layout.specs.Messages.{NonceRequest, NonceResponse, Message}
 use Rattle.layout.specs.Decode.{Decoded, taken, refused, decode}
@@ -93,7 +93,7 @@ module _ (ss : List SignerShares) (start : Option ℕ) (ks : List Call)
 
   late :
       {t : Bool} {a a' b b' : Outcome} → (t ≡ true → Alike ks a a') → Alike ks b b'
-      → Alike ks (given (cond t (some a) none) (λ (o : Outcome). o) b) (given (cond t (some a') none) (λ (o : Outcome). o) b')
+      → Alike ks (given (cond t (Some a) None) (λ (o : Outcome). o) b) (given (cond t (Some a') None) (λ (o : Outcome). o) b')
   late {t = true} p q = p refl
   late {t = false} p q = q
 
@@ -126,8 +126,8 @@ module _ (ss : List SignerShares) (start : Option ℕ) (ks : List Call)
   heard :
       {A : Type 0} (o : Option A) {f f' : A → Outcome} {b b' : Outcome} → ((a : A) → Alike ks (f a) (f' a)) → Alike ks b b'
       → Alike ks (given o f b) (given o f' b')
-  heard none p q = q
-  heard (some a) p q = p a
+  heard None p q = q
+  heard (Some a) p q = p a
 
   by_phase : (now : ℕ) (p : Phase) (m : Content) (c : Coordinator) → unread p ≡ true → Unread c → Both c (message_in now p m)
   unfolding message_in nonce_verdict question19

@@ -1,10 +1,11 @@
 -- The step follows the log: after an opening call, over a list without start, reset or commissioning, the group key held throughout.
 -- Assumes nothing.
+use Rattle.std.proofs.lemmas.Option.{none-some}
 use Prim.Native.Nat.{ℕ}
 use mathlib.Core.Path.{◌≡◌, refl, sym, ap, subst}
 use mathlib.Core.Bool.{Bool, true, false, cond, not, ◌&&◌, ◌||◌, false≢true, and_assoc}
 use mathlib.Core.List.{List, [], ◌∷◌}
-use mathlib.Core.Option.{Option, some, none, none-ne-some}
+use Rattle.std.specs.Prelude.{Option, Some, None}
 use lib.Dec.{ltb, leb}
 use lib.ListN.{length, length-map}
 use Rattle.wire.proofs.Lists.{and_left, and_right}
@@ -51,7 +52,7 @@ round o rs keys =
       root = r.root;
       message = r.message;
       records = rs;
-      nonce_start = some o.clock;
+      nonce_start = Some o.clock;
     }
 
 -- whether a verdict is that the response is recorded
@@ -73,11 +74,11 @@ module _ (o : Opened) (ss : List SignerShares) (start : Option ℕ) where
   -- an outcome against the log: the share request that it names is sent, or it names none and the records are logged
   data Follows : Outcome → Option SignatureShareRequest → ResponseLog → Type 0 where
     sends :
-        {a : Answer} {es : List Event} {h : Held} {r : SignatureShareRequest} {l : ResponseLog} → share_request_in es ≡ some r
-        → Follows (outcome a es h) (some r) l
+        {a : Answer} {es : List Event} {h : Held} {r : SignatureShareRequest} {l : ResponseLog} → share_request_in es ≡ Some r
+        → Follows (outcome a es h) (Some r) l
     gathers :
-        {a : Answer} {es : List Event} {rs : List SignRoundInfo} {keys : Keys} → share_request_in es ≡ none
-        → Follows (outcome a es (commissioned (gathering (round o rs keys) ss start))) none (record { keys = keys; pages = pages_of rs })
+        {a : Answer} {es : List Event} {rs : List SignRoundInfo} {keys : Keys} → share_request_in es ≡ None
+        → Follows (outcome a es (commissioned (gathering (round o rs keys) ss start))) None (record { keys = keys; pages = pages_of rs })
 
   module _ (rs : List SignRoundInfo) (keys : Keys) where
     abbrev pub gathered : Coordinator
@@ -115,11 +116,11 @@ module _ (o : Opened) (ss : List SignerShares) (start : Option ℕ) where
     refused_or n s = given n (λ (n : ℕ). failing n [] gathered) s
 
     abbrev four_or_seven : Bool → Bool → Option ℕ
-    four_or_seven t4 t7 = cond t4 (cond t7 none (some 7)) (some 4)
+    four_or_seven t4 t7 = cond t4 (cond t7 None (Some 7)) (Some 4)
 
     -- an outcome of which the log has nothing
     abbrev Unlogged : Outcome → Type 0
-    Unlogged s = Follows s none log
+    Unlogged s = Follows s None log
 
     still : {a : Answer} → Unlogged (outcome a [] (commissioned gathered))
     unfolding first
@@ -138,7 +139,7 @@ module _ (o : Opened) (ss : List SignerShares) (start : Option ℕ) where
 
     -- an outcome for which q is entered exactly where x passes
     record Ends (q : NonceResponse) (s : Outcome) (x : Bool) : Type 0 where
-      followed : Enters s (cond x (some q) none)
+      followed : Enters s (cond x (Some q) None)
 
     -- Each test of the step against its test in the log.
     module _ (q : NonceResponse) where
@@ -161,7 +162,7 @@ module _ (o : Opened) (ss : List SignerShares) (start : Option ℕ) where
 
       timed :
           (t x : Bool) {a b : Outcome} → Ends q a false → Ends q b x
-          → Ends q (given (cond t (some a) none) (λ (o : Outcome). o) b) (not t && x)
+          → Ends q (given (cond t (Some a) None) (λ (o : Outcome). o) b) (not t && x)
       timed true x p f = p
       timed false x p f = f
 
@@ -171,8 +172,8 @@ module _ (o : Opened) (ss : List SignerShares) (start : Option ℕ) where
 
         -- sent where the keys suffice, the group key being held
         chosen :
-            (t u : Bool) {r : SignatureShareRequest} {l : ResponseLog} → u ≡ true → Follows (recorded suffices) (some r) l
-            → Follows (recorded too_few) none l → Follows (recorded (cond t (cond u suffices no_group_key) too_few)) (cond t (some r) none) l
+            (t u : Bool) {r : SignatureShareRequest} {l : ResponseLog} → u ≡ true → Follows (recorded suffices) (Some r) l
+            → Follows (recorded too_few) None l → Follows (recorded (cond t (cond u suffices no_group_key) too_few)) (cond t (Some r) None) l
         chosen true true e p q = p
         chosen true false e p q = absurd (false≢true e)
         chosen false u e p q = q
@@ -202,10 +203,10 @@ module _ (o : Opened) (ss : List SignerShares) (start : Option ℕ) where
             search (ask_on, out)
 
         -- the timeout fires where the log calls the call late
-        fires_late : (t : Option ℕ) → fires k.clock (some o.clock) t ≡ late process t o.clock k.clock
+        fires_late : (t : Option ℕ) → fires k.clock (Some o.clock) t ≡ late process t o.clock k.clock
         unfolding fires late
-        fires_late none = refl
-        fires_late (some t) = refl
+        fires_late None = refl
+        fires_late (Some t) = refl
 
         the_on_entry :
             (entry : Entry)
@@ -228,13 +229,13 @@ module _ (o : Opened) (ss : List SignerShares) (start : Option ℕ) where
       -- a call that sets keys
       sets :
           (t : Bool) (new : Keys)
-          → Follows (refused_or (cond t none (some 4)) (quiet (gathering (round o rs new) ss start))) none (record { keys = cond t new keys; pages = pages_of rs })
+          → Follows (refused_or (cond t None (Some 4)) (quiet (gathering (round o rs new) ss start))) None (record { keys = cond t new keys; pages = pages_of rs })
       unfolding first
       sets true new = gathers refl
       sets false new = gathers refl
 
       -- the aggregator's answer, with no job out
-      jobless : (t : Bool) (s : Outcome) → Unlogged (refused_or (cond t (some 6) (some 4)) s)
+      jobless : (t : Bool) (s : Outcome) → Unlogged (refused_or (cond t (Some 6) (Some 4)) s)
       jobless true s = still
       jobless false s = still
 
@@ -250,14 +251,14 @@ module _ (o : Opened) (ss : List SignerShares) (start : Option ℕ) where
       late_or {s = s} p = cond_both (λ (x : Option Outcome). Unlogged (given x (λ (o : Outcome). o) s)) (fires _ _ _) the_nonces_late p
 
       -- a message that is no response
-      unheard_message : (m : Message) → nonce_response_in (content_of m) ≡ none → Unlogged (on_message k.clock k.verdict m gathered)
+      unheard_message : (m : Message) → nonce_response_in (content_of m) ≡ None → Unlogged (on_message k.clock k.verdict m gathered)
       unfolding on_message message_in
       unheard_message m e =
           let rest : Unlogged (message_in k.clock (gathering_nonces o.request.signature_type) (content_of m) gathered) = rw e still in
           search (unlogged_branch, still)
 
       unheard-on :
-          (entry : Entry) (m : Message) → nonce_response_in (content_of m) ≡ none
+          (entry : Entry) (m : Message) → nonce_response_in (content_of m) ≡ None
           → Unlogged (on_entry entry k.clock k.verdict m gathered)
       unheard-on process m e = late_or (unheard_message m e)
       unheard-on process_message m e = unheard_message m e
@@ -314,23 +315,23 @@ module _ (o : Opened) (ss : List SignerShares) (start : Option ℕ) where
   -- over a list of calls: the first share request is the one that the log names; while there is none, the records are logged
   abbrev pub Logs : List Call → Held → ResponseLog → Type 0
   Logs ks h l =
-      (first_share_request ks h ≡ first_named o l ks) × (first_share_request ks h ≡ none → RecordsFollow (final ks h) (log_after o l ks))
+      (first_share_request ks h ≡ first_named o l ks) × (first_share_request ks h ≡ None → RecordsFollow (final ks h) (log_after o l ks))
 
-  not_later : (x : Option Place) → or_later none x ≡ none → x ≡ none
+  not_later : (x : Option Place) → or_later None x ≡ None → x ≡ None
   unfolding or_later
-  not_later none e = refl
-  not_later (some x) e = absurd (none-ne-some _ (sym e))
+  not_later None e = refl
+  not_later (Some x) e = absurd (none-some _ (sym e))
 
   -- after a call that follows the log
   joins :
       {s : Outcome} {n : Option SignatureShareRequest} {l : ResponseLog} (ks : List Call) → Follows s n l → GoodPages o l.pages
       → Plain ks s.after
       → ((rs : List SignRoundInfo) (keys : Keys) → GoodPages o (pages_of rs) → Plain ks (commissioned (gathered rs keys)) → Logs ks (commissioned (gathered rs keys)) (log rs keys))
-      → (or_later (share_request_in s.events) (first_share_request ks s.after) ≡ or_later n (first_named o l ks)) × (or_later (share_request_in s.events) (first_share_request ks s.after) ≡ none → RecordsFollow (final ks s.after) (log_after o l ks))
+      → (or_later (share_request_in s.events) (first_share_request ks s.after) ≡ or_later n (first_named o l ks)) × (or_later (share_request_in s.events) (first_share_request ks s.after) ≡ None → RecordsFollow (final ks s.after) (log_after o l ks))
   unfolding or_later
-  joins ks (sends e) good p ih = (rw e, λ z. absurd (none-ne-some _ (sym (rw e at z))))
+  joins ks (sends e) good p ih = (rw e, λ z. absurd (none-some _ (sym (rw e at z))))
   joins ks (gathers {rs = rs} {keys = keys} e) good p ih =
-      (rw e (ap (or_later none) (ih rs keys good p).0), λ z. (ih rs keys good p).1 (not_later _ (rw e at z)))
+      (rw e (ap (or_later None) (ih rs keys good p).0), λ z. (ih rs keys good p).1 (not_later _ (rw e at z)))
 
   logs :
       (ks : List Call) (rs : List SignRoundInfo) (keys : Keys) → GoodPages o (pages_of rs) → Plain ks (commissioned (gathered rs keys))

@@ -4,7 +4,7 @@ use Prim.Native.Nat.{ℕ}
 use mathlib.Core.Path.{◌≡◌}
 use mathlib.Core.Bool.{false}
 use mathlib.Core.List.{List, []}
-use mathlib.Core.Option.{Option, some}
+use Rattle.std.specs.Prelude.{Option, Some}
 use Rattle.layout.specs.declared.Ids.{Ids}
 use Rattle.layout.specs.declared.SignatureType.{SignatureType}
 use Rattle.layout.specs.Messages.{NonceRequest}
@@ -49,7 +49,7 @@ freshly now r s =
       root = r.root;
       message = r.message;
       records = [];
-      nonce_start = some now;
+      nonce_start = Some now;
     }
 
 -- what stays of the coordinator before

@@ -1,10 +1,11 @@
 -- What a step can come to, of the packets that it sends: a nonce request, a share request, or neither.
 -- Assumes nothing.
+use Rattle.std.proofs.lemmas.Option.{none-some}
 use Prim.Native.Nat.{ℕ}
 use mathlib.Core.Path.{◌≡◌, refl, sym, ◌∙◌}
 use mathlib.Core.Bool.{Bool, true, false, cond}
 use mathlib.Core.List.{List, [], ◌∷◌}
-use mathlib.Core.Option.{Option, some, none, none-ne-some}
+use Rattle.std.specs.Prelude.{Option, Some, None}
 use lib.Dec.{eqb}
 use lib.ListN.{get_or}
 use Rattle.wire.specs.Bytes.{le}
@@ -41,7 +42,7 @@ pub record Fresh (now : ℕ) (r : NonceRequest) (c : Coordinator) : Type 0 where
   pub message : c.round.message ≡ r.message
   pub position : c.position ≡ position (NonceGather r.signature_type) r.root
   pub records : c.round.message_nonces ≡ []
-  pub nonce_start : c.round.clocks.nonce_start ≡ some now
+  pub nonce_start : c.round.clocks.nonce_start ≡ Some now
   pub job : c.job ≡ false
 
 -- bytes that are no packet of this kind
@@ -51,10 +52,10 @@ NotKind kind bytes = eqb (get_or bytes 0 0) kind ≡ false
 -- what a step at the time now comes to
 pub data Leaf (now : ℕ) : Outcome → Type 0 where
   silent :
-      {a : Answer} {es : List Event} {h : Held} → nonce_request_in es ≡ none → share_request_in es ≡ none → NotKind 1 a.bytes
+      {a : Answer} {es : List Event} {h : Held} → nonce_request_in es ≡ None → share_request_in es ≡ None → NotKind 1 a.bytes
       → NotKind 3 a.bytes → Leaf now (outcome a es h)
   opens :
-      {es : List Event} {r : NonceRequest} {c : Coordinator} → Fresh now r c → nonce_request_in es ≡ some r → share_request_in es ≡ none
+      {es : List Event} {r : NonceRequest} {c : Coordinator} → Fresh now r c → nonce_request_in es ≡ Some r → share_request_in es ≡ None
       → Leaf now (outcome (sending packet_class (encode (nonce_request r))) es (commissioned c))
   asks_shares :
       {id : ℕ} {r : SignatureShareRequest} {h : Held}
@@ -204,15 +205,15 @@ leaf k h = of_request k k.request h
 
 -- what an opening call leaves
 opened :
-    {now : ℕ} {o : Outcome} (r : NonceRequest) (c : Coordinator) → Leaf now o → nonce_request_in o.events ≡ some r
+    {now : ℕ} {o : Outcome} (r : NonceRequest) (c : Coordinator) → Leaf now o → nonce_request_in o.events ≡ Some r
     → o.after ≡ commissioned c → Fresh now r c
 unfolding first
-opened r c (silent n s a b) e f = absurd (none-ne-some r (sym n ∙ e))
+opened r c (silent n s a b) e f = absurd (none-some r (sym n ∙ e))
 opened {now} r c (opens {r = r'} {c = c'} w n s) e f =
     let p : r' ≡ r = cc in
     let q : c' ≡ c = cc in
     rw (← p, ← q) w
-opened r c asks_shares e f = absurd (none-ne-some r e)
+opened r c asks_shares e f = absurd (none-some r e)
 
 pub opening : (k : Call) (h : Held) (r : NonceRequest) (c : Coordinator) → Opens k h r c → Fresh k.clock r c
 opening k h r c o = opened r c (leaf k h) o.sends o.leaves

@@ -1,5 +1,6 @@
 -- A coordinator within question 4's limits: how many of what it holds, and how long the lists are that are found, joined or added to.
 -- Assumes nothing.
+use Rattle.std.specs.Prelude.{None, Some}
 use Prim.Native.Nat.{ℕ, ◌+◌, ◌*◌, ◌≤◌}
 use mathlib.Core.Path.{◌≡◌}
 use mathlib.Core.Bool.{true, ◌&&◌}
@@ -17,9 +18,7 @@ use Rattle.layout.specs.Decode.{response_within, key_count, within}
 use Rattle.layout.specs.Fits.{NonceFits, ShareFits, ResponseFits, Fits}
 use Rattle.layout.proofs.Limits.{root-length}
 use Rattle.layout.proofs.Lengths.{ResponseLimited, ResponsesLimited, NoncesLimited, SharesLimited}
-use Rattle.state_table.specs.declared.StateType.{StateType}
-use Rattle.state_table.specs.declared.StateType.TheVariants.{Untyped, Typed}
-use Rattle.state_table.specs.States.{type_in}
+use Rattle.state_table.specs.States.{type_in, StateType}
 use Rattle.step_definition.specs.Lists.{given}
 use Rattle.step_definition.specs.Ids.{insert_all}
 use Rattle.step_definition.specs.Coordinator.{Coordinator, SignRoundInfo, SignerShares, is_for, record_of, responses_of, arrivals_of}
@@ -58,8 +57,8 @@ pub record Limited (c : Coordinator) : Type 0 where
   pub shares : All Sent c.round.signature_shares
 
 root_32 : (t : StateType) → root_size t ≤ 32
-root_32 Untyped = omega arith
-root_32 (Typed t) = root-length t
+root_32 None = omega arith
+root_32 (Some t) = root-length t
 
 response_limited : (q : NonceResponse) → ResponseFits q × (response_within q ≡ true) → ResponseLimited q
 response_limited q h = record { fits = h.0; within = h.1 }

@@ -15,7 +15,6 @@ use Rattle.step_definition.proofs.Cases.{cond_both}
 pub found :
     {A B : Type 0} (P : A → Type 0) (Q : B → Type 0) (p : A → Bool) (xs : List A) {f : A → B} {b : B}
     → ((x : A) → P x → Q (f x)) → Q b → All P xs → Q (given (find p xs) f b)
-unfolding find
 found P Q p [] g z a = z
 found P Q p (x ∷ xs) {f = f} {b = b} g z a = cond_both (λ o. Q (given o f b)) (p x) (g x a.0) (found P Q p xs g z a.1)
 

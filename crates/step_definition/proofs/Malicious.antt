@@ -4,7 +4,7 @@ use Prim.Native.Nat.{ℕ}
 use mathlib.Core.Path.{◌≡◌}
 use mathlib.Core.Bool.{Bool, true, false, cond, or-true}
 use mathlib.Core.List.{List}
-use mathlib.Core.Option.{some, none}
+use Rattle.std.specs.Prelude.{Some, None}
 use native.Mathlib.Omega.{arith}
 use Rattle.layout.specs.declared.SignatureType.{SignatureType}
 use Rattle.state_table.specs.declared.State.TheVariants.{SigShareGather}
@@ -24,7 +24,7 @@ malicious_change k h nc = rw nc at (step_told k h).malicious_change
 
 -- without a share timeout, and without commissioning, the list stays as it is
 pub malicious_kept :
-    (k : Call) (h : Held) → is_commission k.request ≡ false → newly_malicious_in (step k h).events ≡ none
+    (k : Call) (h : Held) → is_commission k.request ≡ false → newly_malicious_in (step k h).events ≡ None
     → malicious_in (step k h).after ≡ malicious_in h
 malicious_kept k h nc e = from (malicious_change k h nc)
   where
@@ -41,7 +41,7 @@ pub record ShareTimeout (k : Call) (h : Held) : Type 0 where
   pub elapsed : fires k.clock coordinator.round.clocks.sign_start coordinator.standing.config.timeouts.sign ≡ true
   pub adds : malicious_in (step k h).after ≡ malicious_after coordinator
 
-pub malicious_by_timeout : (k : Call) (h : Held) (ids : List ℕ) → newly_malicious_in (step k h).events ≡ some ids → ShareTimeout k h
+pub malicious_by_timeout : (k : Call) (h : Held) (ids : List ℕ) → newly_malicious_in (step k h).events ≡ Some ids → ShareTimeout k h
 malicious_by_timeout k h ids e = from (is_commission k.request) (step_told k h).malicious_change
   where
     from : (b : Bool) → MaliciousChange k.clock (cond b uncommissioned h) (step k h) → ShareTimeout k h

@@ -2,11 +2,12 @@
 -- first share request leaves at exactly the call that the log names, with exactly the log's entries for that message; where it names
 -- none, none leaves.
 -- Assumes nothing.
+use Rattle.std.proofs.lemmas.Option.{none-some}
 use Prim.Native.Nat.{ℕ}
 use mathlib.Core.Path.{◌≡◌, refl, sym, ap, ◌∙◌}
 use mathlib.Core.Bool.{Bool, true, false, cond}
 use mathlib.Core.List.{List, [], ◌∷◌, map}
-use mathlib.Core.Option.{Option, some, none, none-ne-some}
+use Rattle.std.specs.Prelude.{Option, Some, None}
 use Rattle.wire.specs.Bytes.{All}
 use Rattle.wire.proofs.Lists.{all_imp}
 use Rattle.layout.specs.Messages.{NonceRequest, NonceResponse, SignatureShareRequest}
@@ -34,7 +35,7 @@ pub record RecordsLogged (h : Held) (l : ResponseLog) : Type 0 where
 
 pub log_is_records :
     (k : Call) (h : Held) (r : NonceRequest) (c : Coordinator) → Opens k h r c → (ks : List Call) → Plain ks (commissioned c)
-    → first_share_request ks (commissioned c) ≡ none
+    → first_share_request ks (commissioned c) ≡ None
     → RecordsLogged (final ks (commissioned c)) (log_after (opened_by k r c) (empty (opened_by k r c)) ks)
 log_is_records k h r c o ks p e =
     let w : RecordsFollow (opened_by k r c) c.round.signature_shares c.round.clocks.sign_start _ _ =
@@ -49,8 +50,8 @@ log_is_records k h r c o ks p e =
 -- The share request that the log names, and so the one that leaves, is as demand 3's last clause says.
 module _ (o : Opened) where
   data Vouched : Option SignatureShareRequest → Type 0 where
-    unnamed : Vouched none
-    named : {r : SignatureShareRequest} → Authentic o.standing o.request.ids r → Vouched (some r)
+    unnamed : Vouched None
+    named : {r : SignatureShareRequest} → Authentic o.standing o.request.ids r → Vouched (Some r)
 
   named_branch : {t : Bool} {a b : Option SignatureShareRequest} → (t ≡ true → Vouched a) → (t ≡ false → Vouched b) → Vouched (cond t a b)
   named_branch {t = t} = cond_case Vouched t
@@ -67,8 +68,8 @@ module _ (o : Opened) where
       let a = request-authentic q.message (enter q ps) (enter_good o q ps s g) in search (named_branch, unnamed, named)
 
   data VouchedPlace : Option Place → Type 0 where
-    nowhere : VouchedPlace none
-    somewhere : {p : Place} → Authentic o.standing o.request.ids p.request → VouchedPlace (some p)
+    nowhere : VouchedPlace None
+    somewhere : {p : Place} → Authentic o.standing o.request.ids p.request → VouchedPlace (Some p)
 
   later_vouched : {n : Option SignatureShareRequest} {rest : Option Place} → Vouched n → VouchedPlace rest → VouchedPlace (or_later n rest)
   unfolding or_later
@@ -83,14 +84,14 @@ module _ (o : Opened) where
       later_vouched (completes_vouched l.pages g (entry_good o l k (brought k.request)))
       (first_vouched ks (logged o l k) (logged_good o l k g))
 
-  vouched_at : {x : Option Place} (p : Place) → VouchedPlace x → x ≡ some p → Authentic o.standing o.request.ids p.request
-  vouched_at p nowhere e = absurd (none-ne-some p e)
+  vouched_at : {x : Option Place} (p : Place) → VouchedPlace x → x ≡ Some p → Authentic o.standing o.request.ids p.request
+  vouched_at p nowhere e = absurd (none-some p e)
   vouched_at p (somewhere {p = q} a) e = let s : q ≡ p = cc in rw (← s) a
 
 -- "each from a configured, key-generated, unstruck signer with its exact key set and this request's ids", signers ascending, each once
 pub share_request_authentic :
     (k : Call) (h : Held) (r : NonceRequest) (c : Coordinator) → Opens k h r c → (ks : List Call) → Plain ks (commissioned c)
-    → (p : Place) → first_share_request ks (commissioned c) ≡ some p → Authentic c.standing r.ids p.request
+    → (p : Place) → first_share_request ks (commissioned c) ≡ Some p → Authentic c.standing r.ids p.request
 unfolding opened_by empty
 share_request_authentic k h r c o ks p at e =
     vouched_at (opened_by k r c) at (first_vouched (opened_by k r c) ks (empty (opened_by k r c)) tt)

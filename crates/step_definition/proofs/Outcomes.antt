@@ -5,7 +5,7 @@ use native.Mathlib.Omega.{arith}
 use mathlib.Core.Path.{◌≡◌, refl, sym, subst}
 use mathlib.Core.Bool.{Bool, true, false, cond, ◌||◌, false≢true}
 use mathlib.Core.List.{List, [], ◌∷◌}
-use mathlib.Core.Option.{Option, some, none}
+use Rattle.std.specs.Prelude.{Option, Some, None}
 use lib.Dec.{eqb}
 use Rattle.layout.specs.declared.SignatureType.{SignatureType}
 use Rattle.layout.specs.Messages.{NonceResponse, SignatureShareResponse, Message}
@@ -51,9 +51,9 @@ malicious_after c = insert_all (waiters_of (current_record c)) c.standing.malici
 
 -- what a step from h does to the malicious list: nothing, or a share timeout adds the waiters
 pub data MaliciousChange (now : ℕ) (h : Held) (o : Outcome) : Type 0 where
-  kept : newly_malicious_in o.events ≡ none → malicious_in o.after ≡ malicious_in h → MaliciousChange now h o
+  kept : newly_malicious_in o.events ≡ None → malicious_in o.after ≡ malicious_in h → MaliciousChange now h o
   added :
-      (c : Coordinator) (ids : List ℕ) → h ≡ commissioned c → Fires now c → newly_malicious_in o.events ≡ some ids
+      (c : Coordinator) (ids : List ℕ) → h ≡ commissioned c → Fires now c → newly_malicious_in o.events ≡ Some ids
       → malicious_in o.after ≡ malicious_after c → MaliciousChange now h o
 
 -- an outcome of a step from h: a refusal with the number n leaves `left n`, and no byte
@@ -64,12 +64,12 @@ pub record Told (now : ℕ) (left : ℕ → Held) (h : Held) (o : Outcome) : Typ
 -- The three kinds of outcome, and each kind of test that stands before outcomes.
 module _ {now : ℕ} {left : ℕ → Held} where
   says :
-      {h after : Held} {a : Answer} {es : List Event} → a.number ≡ 0 → newly_malicious_in es ≡ none → malicious_in after ≡ malicious_in h
+      {h after : Held} {a : Answer} {es : List Event} → a.number ≡ 0 → newly_malicious_in es ≡ None → malicious_in after ≡ malicious_in h
       → Told now left h (outcome a es after)
   says z m k = record { refusal = λ n e. absurd (omega arith); malicious_change = kept m k }
 
   refuses :
-      {h after : Held} {k : Class} {m : ℕ} {vs : List ℕ} {es : List Event} → after ≡ left m → newly_malicious_in es ≡ none
+      {h after : Held} {k : Class} {m : ℕ} {vs : List ℕ} {es : List Event} → after ≡ left m → newly_malicious_in es ≡ None
       → malicious_in after ≡ malicious_in h → Told now left h (outcome (refusing k m vs) es after)
   refuses {after = after} x m k = record { refusal = λ n e. (subst (λ (j : ℕ). after ≡ left j) e x, refl); malicious_change = kept m k }
 

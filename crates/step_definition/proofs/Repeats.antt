@@ -36,12 +36,12 @@ eqb_swap x y = by (eqb y x) refl
 
 -- a list shares nothing with an empty one, nor with two where with neither
 disjoint_nil : (ys : List ℕ) → disjoint [] ys ≡ true
-unfolding disjoint every member
+unfolding disjoint
 disjoint_nil [] = refl
 disjoint_nil (y ∷ ys) = disjoint_nil ys
 
 disjoint_cons : (x : ℕ) (xs ys : List ℕ) → disjoint (x ∷ xs) ys ≡ (not (member x ys) && disjoint xs ys)
-unfolding disjoint every member
+unfolding disjoint
 disjoint_cons x xs [] = refl
 disjoint_cons x xs (y ∷ ys) =
     rw (disjoint_cons x xs ys, eqb_swap y x) (by (eqb x y) (member y xs) (member x ys) (disjoint xs ys))
@@ -71,7 +71,7 @@ distinct_append (x ∷ xs) ys =
     by false false d e s = refl
 
 none_after : (before xs : List ℕ) → eqb (repeats_after before xs) 0 ≡ (disjoint before xs && distinct xs)
-unfolding repeats_after disjoint every distinct
+unfolding repeats_after disjoint distinct
 none_after before [] = refl
 none_after before (x ∷ xs) = by (member x before) (none_after (before ++ (x ∷ [])) xs)
   where
@@ -89,7 +89,7 @@ no_repeats_law xs = none_after [] xs ∙ ap (λ (b : Bool). b && distinct xs) (d
 
 disjoint-joined : (ks : List ℕ) (qs : List NonceResponse)
     → disjoint ks (joined_keys qs) ≡ every (λ (q : NonceResponse). disjoint ks q.key_ids) qs
-unfolding joined_keys disjoint every
+unfolding joined_keys disjoint
 disjoint-joined ks [] = refl
 disjoint-joined ks (q ∷ qs) =
     every_append (λ (y : ℕ). not (member y ks)) q.key_ids (joined_keys qs)
@@ -98,7 +98,7 @@ disjoint-joined ks (q ∷ qs) =
 -- no key twice in the joined list: each count is 0, and nothing is shared
 pub joined_once : (set : NonceResponse → List ℕ) (qs : List NonceResponse)
     → distinct (joined_keys qs) ≡ (no_repeats set qs && none_shared qs)
-unfolding joined_keys distinct every none_shared
+unfolding joined_keys distinct none_shared
 joined_once set [] = refl
 joined_once set (q ∷ qs) =
     rw (distinct_append q.key_ids (joined_keys qs), joined_once set qs, disjoint-joined q.key_ids qs, no_repeats_law q.key_ids)
@@ -114,7 +114,7 @@ whole-counted set qs held = rw (joined_once set qs)
 -- one more that stands before: the first entry that has it is a repeat now, if it was none
 one_before : (x : ℕ) (before xs : List ℕ)
     → repeats_after (x ∷ before) xs ≡ cond (member x xs && not (member x before)) 1 0 + repeats_after before xs
-unfolding repeats_after member
+unfolding repeats_after
 one_before x before [] = refl
 one_before x before (y ∷ ys) =
     let n = repeats_after (before ++ (y ∷ [])) ys in
@@ -137,7 +137,7 @@ one_before x before (y ∷ ys) =
 
 -- an entry is the first of its key or a repeat
 pub repeats_and_different : (xs : List ℕ) → repeats xs + length (insert_all xs []) ≡ length xs
-unfolding insert_all member repeats_after
+unfolding insert_all repeats_after
 repeats_and_different [] = refl
 repeats_and_different (x ∷ xs) = by (member x xs) refl (repeats_and_different xs)
   where

@@ -5,7 +5,7 @@
 use Prim.Native.Nat.{ℕ}
 use mathlib.Core.Path.{◌≡◌, sym, subst}
 use mathlib.Core.List.{List, [], ◌∷◌}
-use mathlib.Core.Option.{some}
+use Rattle.std.specs.Prelude.{Some}
 use Rattle.layout.specs.Messages.{NonceRequest}
 use Rattle.step_definition.specs.Ids.{insert_all, without}
 use Rattle.step_definition.specs.Configuration.{Config}
@@ -56,7 +56,7 @@ adds (watching r silent) (commissioned c) new after i s =
     rw (← (subst (λ (p : Phase). Knows (watching r silent) p c) s.1 i).0) (s.2, s.3)
 
 pub only_the_silent :
-    (h : Held) → Begins h → (ks : List Call) (k : Call) (ids : List ℕ) → newly_malicious_in (step k (final ks h)).events ≡ some ids
+    (h : Held) → Begins h → (ks : List Call) (k : Call) (ids : List ℕ) → newly_malicious_in (step k (final ks h)).events ≡ Some ids
     → Adds (watched ks h unasked) ids (malicious_in (step k (final ks h)).after) (malicious_in (final ks h))
 only_the_silent h b ks k ids e =
     adds (watched ks h unasked) (final ks h) ids (step k (final ks h)).after (watched_known ks h unasked (begins_known h b))

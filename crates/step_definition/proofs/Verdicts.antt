@@ -3,7 +3,7 @@
 use Prim.Native.Nat.{ℕ}
 use mathlib.Core.Path.{◌≡◌}
 use mathlib.Core.Bool.{Bool, true, false, cond, not, ◌||◌, ◌&&◌, false≢true}
-use mathlib.Core.Option.{Option, some, none}
+use Rattle.std.specs.Prelude.{Option, Some, None}
 use lib.Dec.{eqb}
 use borrow.Author.Tests.{not-true}
 use Rattle.layout.specs.Messages.{NonceResponse, SignatureShareResponse}
@@ -21,11 +21,11 @@ use Rattle.step_definition.proofs.Cases.{cond_case}
 
 -- 4 to 7: of a call that is asked 5 and goes on no job is out, of one that is asked 6 a job is
 pub data Before (o : Operation) (c : Coordinator) : Option ℕ → Type 0 where
-  gets4 : Before o c (some 4)
-  gets5 : Before o c (some 5)
-  gets6 : Before o c (some 6)
-  gets7 : Before o c (some 7)
-  goes_on : ((asks o).no_job ≡ true → c.job ≡ false) → ((asks o).a_job ≡ true → c.job ≡ true) → Before o c none
+  gets4 : Before o c (Some 4)
+  gets5 : Before o c (Some 5)
+  gets6 : Before o c (Some 6)
+  gets7 : Before o c (Some 7)
+  goes_on : ((asks o).no_job ≡ true → c.job ≡ false) → ((asks o).a_job ≡ true → c.job ≡ true) → Before o c None
 
 no_job : {a b : Bool} → not a || not b ≡ true → a ≡ true → b ≡ false
 no_job {a = true} {b = b} e p = not-true b e
@@ -97,11 +97,11 @@ share_case r c =
 
 -- a timeout that yields something, by phase
 pub data TimeoutCase (now : ℕ) (c : Coordinator) : Phase → Option Outcome → Type 0 where
-  on_time : {p : Phase} → TimeoutCase now c p none
-  nonces_late : {t : SignatureType} → TimeoutCase now c (gathering_nonces t) (some (nonce_timeout c))
+  on_time : {p : Phase} → TimeoutCase now c p None
+  nonces_late : {t : SignatureType} → TimeoutCase now c (gathering_nonces t) (Some (nonce_timeout c))
   shares_late :
       {t : SignatureType} → fires now c.round.clocks.sign_start c.standing.config.timeouts.sign ≡ true
-      → TimeoutCase now c (gathering_shares t) (some (share_timeout now t c.position.root c))
+      → TimeoutCase now c (gathering_shares t) (Some (share_timeout now t c.position.root c))
 
 timeout_branch :
     {now : ℕ} {c : Coordinator} {p : Phase} {t : Bool} {a b : Option Outcome} → (t ≡ true → TimeoutCase now c p a)

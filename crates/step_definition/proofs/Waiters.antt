@@ -4,7 +4,7 @@ use Prim.Native.Nat.{ℕ}
 use mathlib.Core.Path.{◌≡◌, refl, sym, ap, ◌∙◌}
 use mathlib.Core.Bool.{Bool, true, false, cond, true≢false}
 use mathlib.Core.List.{List, [], ◌∷◌, map}
-use mathlib.Core.Option.{Option}
+use Rattle.std.specs.Prelude.{Option}
 use lib.Dec.{eqb}
 use Rattle.wire.specs.Bytes.{All, are_same_bytes}
 use Rattle.layout.specs.Messages.{NonceResponse}
@@ -30,7 +30,6 @@ add_awaited now q rs h =
 -- the waiters of a message are its responders
 pub awaited_of :
     (m : List ℕ) (rs : List SignRoundInfo) → All Awaited rs → waiters_of (record_of m rs) ≡ map responder_id (responses_of (record_of m rs))
-unfolding find
 awaited_of m [] h = refl
 awaited_of m (r ∷ rs) h =
     cond_case (λ (i : Option SignRoundInfo). waiters_of i ≡ map responder_id (responses_of i)) (are_same_bytes m r.message)
@@ -39,7 +38,7 @@ awaited_of m (r ∷ rs) h =
 
 -- to take off an id that is not there changes nothing
 remove_none : (id : ℕ) (ids : List ℕ) → member id ids ≡ false → ids ≡ remove id ids
-unfolding member remove
+unfolding remove
 remove_none id [] e = refl
 remove_none id (x ∷ xs) e =
     cond_case (λ (l : List ℕ). x ∷ xs ≡ l) (eqb id x)
@@ -54,7 +53,7 @@ remove_absent id ids e false = refl
 pub waiter_removed_law :
     (m : List ℕ) (id : ℕ) (rs : List SignRoundInfo)
     → waiters_of (record_of m (remove_waiter m id rs)) ≡ remove id (waiters_of (record_of m rs))
-unfolding find change remove
+unfolding change remove
 waiter_removed_law m id [] = refl
 waiter_removed_law m id (r ∷ rs) =
     cond_case (λ (l : List SignRoundInfo). waiters_of (record_of m l) ≡ remove id (waiters_of (record_of m (r ∷ rs))))

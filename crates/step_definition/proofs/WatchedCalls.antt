@@ -4,7 +4,7 @@ use Prim.Native.Nat.{ℕ}
 use mathlib.Core.Path.{◌≡◌, refl}
 use mathlib.Core.Bool.{Bool, true, false, cond, not, ◌&&◌, ◌||◌}
 use mathlib.Core.List.{List, []}
-use mathlib.Core.Option.{Option, none}
+use Rattle.std.specs.Prelude.{Option, None}
 use Rattle.layout.specs.Messages.{SignatureShareResponse, Message}
 use Rattle.layout.specs.Decode.{Decoded, taken, refused, decode}
 use Rattle.step_definition.specs.Lists.{is_some, given, first}
@@ -29,7 +29,7 @@ use Rattle.step_definition.proofs.WatchedStates.{Fine, Moves, branch, still, sta
 -- a message is heard where 13 and 14 are yes, or not asked
 sealed-good :
     (c : Coordinator) (verify q13 q14 : Bool) (a : Option SignatureShareResponse) (rest : Outcome) → Good (commissioned c) a false rest
-    → Good (commissioned c) (cond (not verify || (q13 && q14)) a none) false (cond (not verify || q13) (cond (not verify || q14) rest (failing 14 [] c)) (failing 13 [] c))
+    → Good (commissioned c) (cond (not verify || (q13 && q14)) a None) false (cond (not verify || q13) (cond (not verify || q14) rest (failing 14 [] c)) (failing 13 [] c))
 sealed-good c false q13 q14 a rest f = f
 sealed-good c true false q14 a rest f = quiet_good (unheard (commissioned c))
 sealed-good c true true false a rest f = quiet_good (unheard (commissioned c))
@@ -38,7 +38,7 @@ sealed-good c true true true a rest f = f
 module _ (k : Call) (c : Coordinator) where
   message-heard :
       (m : Message)
-      → Good (commissioned c) (cond (sealed c k.verdict m) (share_response_in (content_of m)) none) false (on_message k.clock k.verdict m c)
+      → Good (commissioned c) (cond (sealed c k.verdict m) (share_response_in (content_of m)) None) false (on_message k.clock k.verdict m c)
   unfolding on_message sealed
   message-heard m =
       let g = c.standing.config in
@@ -47,7 +47,7 @@ module _ (k : Call) (c : Coordinator) where
 
   entry-heard :
       (entry : Entry) (m : Message)
-      → Good (commissioned c) (unless_fired entry k.clock c (cond (sealed c k.verdict m) (share_response_in (content_of m)) none)) false (on_entry entry k.clock k.verdict m c)
+      → Good (commissioned c) (unless_fired entry k.clock c (cond (sealed c k.verdict m) (share_response_in (content_of m)) None)) false (on_entry entry k.clock k.verdict m c)
   entry-heard process m = unless-late c k.clock _ _ refl (timeout_case k.clock c (phase_of c.position.state)) (message-heard m)
   entry-heard process_message m = message-heard m
 
@@ -59,9 +59,9 @@ module _ (k : Call) (c : Coordinator) where
   packet-heard entry (refused n) = quiet_good (unheard (commissioned c))
 
   abbrev Quietly : Outcome → Type 0
-  Quietly o = Good (commissioned c) none false o
+  Quietly o = Good (commissioned c) None false o
 
-  none_heard : {o : Outcome} (t : Bool) → Good (commissioned c) (cond t none none) false o → Quietly o
+  none_heard : {o : Outcome} (t : Bool) → Good (commissioned c) (cond t None None) false o → Quietly o
   none_heard true g = g
   none_heard false g = g
 
@@ -73,12 +73,12 @@ module _ (k : Call) (c : Coordinator) where
   results_good : (dkg : ℕ) (ended : List ℕ) → Quietly (on_results dkg ended c)
   unfolding on_results
   results_good dkg ended =
-      let moves : Moves c none false c = unheard (commissioned c) in
+      let moves : Moves c None false c = unheard (commissioned c) in
       search (branch, still, idle_now)
 
   aggregated_good : (ok : Bool) → Quietly (on_aggregated ok c)
   unfolding on_aggregated
-  aggregated_good ok = let moves : Moves c none false (with_job false c) = unheard (commissioned c) in search (branch, still, idle_known)
+  aggregated_good ok = let moves : Moves c None false (with_job false c) = unheard (commissioned c) in search (branch, still, idle_known)
 
   -- what a call does once 4 to 7 are yes
   own_good : (o : Operation) → Good (commissioned c) (heard_by k (brings o) c) (is_start (brings o)) (own k o c)
@@ -87,13 +87,13 @@ module _ (k : Call) (c : Coordinator) where
   own_good (take_results dkg ended) = results_good dkg ended
   own_good (can_move p) = quiet_good (unheard (commissioned c))
   own_good (start_signing s) =
-      let rest : Fine c none true (start_round k.clock s c) = start-good c none true k.clock s c (unheard (commissioned c)) (λ w i. broken_known w c (naming s c) refl refl i) in
-      let moves : Moves c none true c = unheard (commissioned c) in
+      let rest : Fine c None true (start_round k.clock s c) = start-good c None true k.clock s c (unheard (commissioned c)) (λ w i. broken_known w c (naming s c) refl refl i) in
+      let moves : Moves c None true c = unheard (commissioned c) in
       search (branch, still)
   own_good (receive entry bytes) = packet-heard entry (decode bytes)
   own_good process_timeout =
       none_heard (is_some (timeout k.clock c))
-      (unless-late c k.clock none _ refl (timeout_case k.clock c (phase_of c.position.state)) (quiet_good (unheard (commissioned c))))
+      (unless-late c k.clock None _ refl (timeout_case k.clock c (phase_of c.position.state)) (quiet_good (unheard (commissioned c))))
   own_good (aggregated ok) = aggregated_good ok
   own_good reset = quiet_good (λ w i. tt)
   own_good tell_arrivals = quiet_good (unheard (commissioned c))
@@ -101,7 +101,7 @@ module _ (k : Call) (c : Coordinator) where
   -- 4 to 7 first
   asked-good :
       (o : Operation) {n : Option ℕ} → Before o c n
-      → Good (commissioned c) (cond (is_some n) none (heard_by k (brings o) c)) (is_start (brings o)) (given n (λ (n : ℕ). failing n [] c) (own k o c))
+      → Good (commissioned c) (cond (is_some n) None (heard_by k (brings o) c)) (is_start (brings o)) (given n (λ (n : ℕ). failing n [] c) (own k o c))
   asked-good o gets4 = quiet_good (unheard (commissioned c))
   asked-good o gets5 = quiet_good (unheard (commissioned c))
   asked-good o gets6 = quiet_good (unheard (commissioned c))
@@ -126,9 +126,9 @@ pub commission-begun : (g : Config) → Begun (on_commission g)
 unfolding on_commission
 commission-begun g = search begun_branch
 
-begun-good : (h : Held) (o : Outcome) → Begun o → Good h none false o
+begun-good : (h : Held) (o : Outcome) → Begun o → Good h None false o
 unfolding first
-begun-good h o b = calm-good o.events (rw b.calm (refl, refl, refl)) (λ w i. b.any (listening w none))
+begun-good h o b = calm-good o.events (rw b.calm (refl, refl, refl)) (λ w i. b.any (listening w None))
 
 step_of-good : (k : Call) (r : Request) (h : Held) → Good h (heard k r h) (is_start (brought r)) (step_of k r h)
 unfolding step_of heard

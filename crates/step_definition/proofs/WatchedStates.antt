@@ -1,11 +1,12 @@
 -- The watch kept by each function of the step, phase by phase.
 -- Assumes nothing.
+use Rattle.std.proofs.lemmas.Option.{none-some}
 use Prim.Native.Nat.{ℕ}
 use native.Mathlib.Omega.{arith}
 use mathlib.Core.Path.{◌≡◌, refl, sym, subst, ◌∙◌}
 use mathlib.Core.Bool.{Bool, true, false, cond, ◌&&◌}
 use mathlib.Core.List.{List, [], ◌∷◌}
-use mathlib.Core.Option.{Option, some, none, none-ne-some}
+use Rattle.std.specs.Prelude.{Option, Some, None}
 use lib.Dec.{eqb}
 use Rattle.wire.specs.Bytes.{All}
 use Rattle.layout.specs.declared.SignatureType.{SignatureType}
@@ -49,18 +50,18 @@ module _ (c : Coordinator) (heard : Option SignatureShareResponse) (start : Bool
 
   -- a new round is begun: any watch fits
   anew :
-      {n : Answer} {es : List Event} {d : Coordinator} → newly_malicious_in es ≡ none → ((w : Watch) → Known w (commissioned d))
+      {n : Answer} {es : List Event} {d : Coordinator} → newly_malicious_in es ≡ None → ((w : Watch) → Known w (commissioned d))
       → Fine (outcome n es (commissioned d))
   anew {n = n} {es = es} m f =
       record {
         opens = λ r e. f unasked;
         keeps = λ w i. f (watch_after (share_request_in es) (start && eqb n.number 11) (listening w heard));
-        excludes = λ ids e. absurd (none-ne-some ids (sym m ∙ e));
+        excludes = λ ids e. absurd (none-some ids (sym m ∙ e));
       }
 
   refused11 :
       {d : Coordinator}
-      → ((w : Watch) → Known w (commissioned c) → Known (watch_after none (start && true) (listening w heard)) (commissioned d))
+      → ((w : Watch) → Known w (commissioned c) → Known (watch_after None (start && true) (listening w heard)) (commissioned d))
       → Fine (failing 11 [] d)
   unfolding first
   refused11 named = plain-good refl refl named
@@ -68,7 +69,7 @@ module _ (c : Coordinator) (heard : Option SignatureShareResponse) (start : Bool
   -- a start; 11 leaves message and sign id changed
   pub start-good :
       (now : ℕ) (s : Start) (d : Coordinator) → Moves d
-      → ((w : Watch) → Known w (commissioned c) → Known (watch_after none (start && true) (listening w heard)) (commissioned (naming s d)))
+      → ((w : Watch) → Known w (commissioned c) → Known (watch_after None (start && true) (listening w heard)) (commissioned (naming s d)))
       → Fine (start_round now s d)
   unfolding start_round first
   start-good now s d moves named = search (branch, still, anew, refused11)
@@ -84,7 +85,7 @@ module _ (c : Coordinator) (heard : Option SignatureShareResponse) (start : Bool
   unfolding first malicious_in
   insufficient {t} {n} {d} p m moves =
       record {
-        opens = λ r e. absurd (none-ne-some r e);
+        opens = λ r e. absurd (none-some r e);
         keeps = λ w i. unrequested (start && eqb n.number 11) (listening w heard) (commissioned d) (moves w i);
         excludes = λ ids e. (t, p, m, cc);
       }
@@ -161,7 +162,7 @@ module _ (c : Coordinator) (heard : Option SignatureShareResponse) (start : Bool
 -- the waiter is taken off where the packet's ids are the current ones
 module _ (c : Coordinator) (t : SignatureType) (r : SignatureShareResponse) (p : phase_of c.position.state ≡ gathering_shares t) where
   abbrev Hears : Coordinator → Type 0
-  Hears d = Moves c (some r) false d
+  Hears d = Moves c (Some r) false d
 
   hears :
       (d : Coordinator) → d.position ≡ c.position → d.ids ≡ c.ids
@@ -174,7 +175,7 @@ module _ (c : Coordinator) (t : SignatureType) (r : SignatureShareResponse) (p :
   frees : answers r c.ids ≡ true → Hears (freeing r.signer_id c)
   frees e = hears (freeing r.signer_id c) refl refl (rw e (waiter_removed_law c.round.message r.signer_id c.round.message_nonces))
 
-  shares_good : {v : ShareVerdict} → ShareCase r c v → Fine c (some r) false (on_shares t c.position.root r c v)
+  shares_good : {v : ShareVerdict} → ShareCase r c v → Fine c (Some r) false (on_shares t c.position.root r c v)
   unfolding on_shares
   shares_good (not_awaited e) =
       quiet_good (hears c refl refl (remove_absent r.signer_id (waiters_of (current_record c)) e (answers r c.ids)))
@@ -184,7 +185,7 @@ module _ (c : Coordinator) (t : SignatureType) (r : SignatureShareResponse) (p :
   shares_good (gets21 e) = quiet_good (frees e)
   shares_good (gets22 e) = quiet_good (frees e)
   shares_good (not_ended e) = quiet_good (frees e)
-  shares_good (is_good e) = take-good c (some r) false t r (freeing r.signer_id c) (frees e) (take_verdict r (freeing r.signer_id c))
+  shares_good (is_good e) = take-good c (Some r) false t r (freeing r.signer_id c) (frees e) (take_verdict r (freeing r.signer_id c))
 
 -- a message, by phase
 module _ (c : Coordinator) (now : ℕ) where
@@ -200,14 +201,14 @@ module _ (c : Coordinator) (now : ℕ) where
   never : {p q : Phase} {t : SignatureType} → p ≡ gathering_nonces t → p ≡ q → (u : SignatureType) → q ≡ gathering_shares u → ⊥
   never e f u g = let z : ◌≡◌ {A = ℕ} 0 1 = cc in omega arith
 
-  nothing_heard : Fine c none false (quiet c)
+  nothing_heard : Fine c None false (quiet c)
   nothing_heard = quiet_good (unheard_known (commissioned c))
 
   pub message_good : (p : Phase) (m : Content) → phase_of c.position.state ≡ p → Hearing m (message_in now p m c)
   unfolding message_in
   message_good idling m e = idle_good c (share_response_in m) false now m e
   message_good (gathering_nonces t) (a_nonce_request r) e = nothing_heard
-  message_good (gathering_nonces t) (a_nonce_response q) e = nonces-good c none false now t e (unheard_known (commissioned c)) (nonce_case q c)
+  message_good (gathering_nonces t) (a_nonce_response q) e = nonces-good c None false now t e (unheard_known (commissioned c)) (nonce_case q c)
   message_good (gathering_nonces t) (a_share_response r) e = quiet_good (unshared (a_share_response r) e (never e e))
   message_good (gathering_nonces t) (a_dkg_begin dkg) e = nothing_heard
   message_good (gathering_nonces t) unheard e = nothing_heard
@@ -222,7 +223,7 @@ module _ (c : Coordinator) (now : ℕ) where
 pub unless-late :
     (c : Coordinator) (now : ℕ) {p : Phase} {o : Option Outcome} (a : Option SignatureShareResponse) (rest : Outcome)
     → phase_of c.position.state ≡ p → TimeoutCase now c p o → Fine c a false rest
-    → Fine c (cond (is_some o) none a) false (given o (λ (o : Outcome). o) rest)
+    → Fine c (cond (is_some o) None a) false (given o (λ (o : Outcome). o) rest)
 unless-late c now a rest e on_time f = f
-unless-late c now a rest e nonces_late f = nonce_timeout_good c none false (unheard_known (commissioned c))
-unless-late c now a rest e (shares_late {t = t} l) f = share-timeout-good c none false now t e (unheard_known (commissioned c))
+unless-late c now a rest e nonces_late f = nonce_timeout_good c None false (unheard_known (commissioned c))
+unless-late c now a rest e (shares_late {t = t} l) f = share-timeout-good c None false now t e (unheard_known (commissioned c))

@@ -1,10 +1,11 @@
 -- What is known of a held coordinator beside its watch, and what a call's outcome has to keep of it.
 -- Assumes nothing.
+use Rattle.std.proofs.lemmas.Option.{none-some}
 use Prim.Native.Nat.{ℕ}
 use mathlib.Core.Path.{◌≡◌, refl, sym, ◌∙◌}
 use mathlib.Core.Bool.{Bool, true, false, cond, ◌&&◌}
 use mathlib.Core.List.{List, []}
-use mathlib.Core.Option.{Option, some, none, none-ne-some}
+use Rattle.std.specs.Prelude.{Option, Some, None}
 use lib.Dec.{eqb}
 use Rattle.wire.specs.Bytes.{All}
 use Rattle.layout.specs.declared.Ids.{Ids}
@@ -58,11 +59,11 @@ TimedOut (commissioned c) new after =
 
 -- what is shown of each call's outcome on h, by the share packet that is heard and by whether the call is a start
 pub record Good (h : Held) (heard : Option SignatureShareResponse) (start : Bool) (o : Outcome) : Type 0 where
-  pub opens : (r : NonceRequest) → nonce_request_in o.events ≡ some r → Known unasked o.after
+  pub opens : (r : NonceRequest) → nonce_request_in o.events ≡ Some r → Known unasked o.after
   pub keeps :
       (w : Watch) → Known w h
       → Known (watch_after (share_request_in o.events) (start && eqb o.answer.number 11) (listening w heard)) o.after
-  pub excludes : (ids : List ℕ) → newly_malicious_in o.events ≡ some ids → TimedOut h ids o.after
+  pub excludes : (ids : List ℕ) → newly_malicious_in o.events ≡ Some ids → TimedOut h ids o.after
 
 -- the watch matters while shares are gathered, and then alone
 pub elsewhere : (p : Phase) (c : Coordinator) (w v : Watch) → ((t : SignatureType) → p ≡ gathering_shares t → ⊥) → Knows w p c → Knows v p c
@@ -85,7 +86,7 @@ pub broken_known :
 broken_known w c d p e i = rw (← p) (broken_knows (phase_of c.position.state) w c d e i)
 
 -- a call that sends no share request leaves the watch or breaks it
-pub unrequested : (t : Bool) (w : Watch) (h : Held) → Known w h → Known (watch_after none t w) h
+pub unrequested : (t : Bool) (w : Watch) (h : Held) → Known w h → Known (watch_after None t w) h
 unfolding watch_after
 unrequested false w h i = i
 unrequested true w uncommissioned i = tt
@@ -93,7 +94,7 @@ unrequested true w miscounted i = tt
 unrequested true w (commissioned c) i = broken_known w c c refl refl i
 
 -- a call in which nothing is heard leaves the watch
-pub unheard : (h : Held) (w : Watch) → Known w h → Known (listening w none) h
+pub unheard : (h : Held) (w : Watch) → Known w h → Known (listening w None) h
 unfolding listening listen
 unheard h unasked i = i
 unheard h broken i = i
@@ -102,7 +103,7 @@ unheard h (watching r silent) i = i
 -- a packet that is heard takes its signer off the silent as off the waiters
 pub asked-heard :
     (w : Watch) (r : SignatureShareResponse) (ids : Ids) (ws ws' : List ℕ) → ws' ≡ cond (answers r ids) (remove r.signer_id ws) ws
-    → Asked w ids ws → Asked (listening w (some r)) ids ws'
+    → Asked w ids ws → Asked (listening w (Some r)) ids ws'
 unfolding listening listen
 asked-heard unasked r ids ws ws' e i = i
 asked-heard broken r ids ws ws' e i = i
@@ -111,19 +112,19 @@ asked-heard (watching q silent) r ids ws ws' e i = (cc, i.1, i.2)
 module _ {h : Held} {heard : Option SignatureShareResponse} {start : Bool} {n : Answer} {after : Held} where
   -- an outcome without a nonce request and without a share timeout
   pub plain-good :
-      {es : List Event} → nonce_request_in es ≡ none → newly_malicious_in es ≡ none
+      {es : List Event} → nonce_request_in es ≡ None → newly_malicious_in es ≡ None
       → ((w : Watch) → Known w h → Known (watch_after (share_request_in es) (start && eqb n.number 11) (listening w heard)) after)
       → Good h heard start (outcome n es after)
   plain-good no-request no-exclusion keeps =
       record {
-        opens = λ r e. absurd (none-ne-some r (sym no-request ∙ e));
+        opens = λ r e. absurd (none-some r (sym no-request ∙ e));
         keeps = keeps;
-        excludes = λ ids e. absurd (none-ne-some ids (sym no-exclusion ∙ e));
+        excludes = λ ids e. absurd (none-some ids (sym no-exclusion ∙ e));
       }
 
   -- and without a share request
   pub calm-good :
-      (es : List Event) → (nonce_request_in es ≡ none) × (newly_malicious_in es ≡ none) × (share_request_in es ≡ none)
+      (es : List Event) → (nonce_request_in es ≡ None) × (newly_malicious_in es ≡ None) × (share_request_in es ≡ None)
       → ((w : Watch) → Known w h → Known (listening w heard) after) → Good h heard start (outcome n es after)
   calm-good es calm moves =
       plain-good calm.0 calm.1 (λ w i. rw calm.2 (unrequested (start && eqb n.number 11) (listening w heard) after (moves w i)))

@@ -4,7 +4,7 @@
 use mathlib.Core.Path.{◌≡◌, refl}
 use mathlib.Core.Bool.{true, false}
 use mathlib.Core.List.{List, [], ◌∷◌, map}
-use mathlib.Core.Option.{some}
+use Rattle.std.specs.Prelude.{Some}
 use Rattle.wire.specs.Bytes.{le, number, joined, every, are_same_bytes}
 use Rattle.layout.specs.Decode.{entries, ids_in, nonce_in, nonces_in, share_in, response_in, request_in, share_request_in, share_response_in, message_in, response_within, key_count, within, decode}
 use Rattle.layout.specs.Encode.{header_bytes, table, packet, id_bytes, nonce_bytes, share_bytes, response_parts, encode_response, header, parts}
@@ -71,9 +71,9 @@ each_call =
 pub record Met : Type 0 where
   pub opens : Opens opener (final ready uncommissioned) (request9 1) opened9
   pub plain : Plain two_answers (commissioned opened9)
-  pub sends : first_share_request two_answers (commissioned opened9) ≡ some (record { call = 1; request = shares9 (q0 ∷ q1 ∷ []) })
+  pub sends : first_share_request two_answers (commissioned opened9) ≡ Some (record { call = 1; request = shares9 (q0 ∷ q1 ∷ []) })
   pub each_plain : Plain each_call (commissioned opened9)
-  pub each_sends : first_share_request each_call (commissioned opened9) ≡ some (record { call = 10; request = shares9 (q0 ∷ q1 ∷ q2 ∷ []) })
+  pub each_sends : first_share_request each_call (commissioned opened9) ≡ Some (record { call = 10; request = shares9 (q0 ∷ q1 ∷ q2 ∷ []) })
 
 -- all tables in one computation
 tables :
@@ -89,13 +89,13 @@ tables :
     × (map play marks ≡ marks)
     × (map play arrivals ≡ arrivals)
     × Met
-unfolding le number joined every are_same_bytes entries ids_in nonce_in nonces_in share_in response_in request_in share_request_in
+unfolding le number entries ids_in nonce_in nonces_in share_in response_in request_in share_request_in
     share_response_in message_in response_within key_count within decode header_bytes table packet id_bytes nonce_bytes
     share_bytes response_parts encode_response header parts encode encode_job encode_nonce_timeout encode_insufficient_signers
     clock_bytes encode_arrivals
     header_in part_at parts_from tiles dkg_only headed framed whole_entries whole_share whole_response response_laid_out
-    whole_root whole_lists is_laid_out type_of root_length member subset same_set valid_point valid_nonce nonces_valid accepted
-    can_move_to same_type types_agree same find change insert_by insert_all remove without distinct next previous question1
+    whole_root whole_lists is_laid_out type_of root_length subset same_set valid_point valid_nonce nonces_valid accepted
+    can_move_to same_type types_agree same change insert_by insert_all remove without distinct next previous question1
     question2 set_sizes question3 ascending_signers ascending num_key_ids question4 question5 question6 question7 asks
     before question9 question10 question11 fires question12 question13 question14 question15 admitted question19
     question20 question21 question22 question24 question25 root_for recv_key_ids share_key_ids joined_keys joined_nonces

@@ -1,6 +1,5 @@
 -- Calls with all that a host gives, answers, and a step's outcome.
-use Rattle.std.specs.Prelude.{ℕ, Bool, true, false, List, []}
-use Rattle.std.proofs.Math.Option.{Option, some, none}
+use Rattle.std.specs.Prelude.{Option, Some, None, ℕ, Bool, true, false, List, []}
 use Rattle.layout.specs.declared.SignatureType.{SignatureType}
 use Rattle.layout.specs.Messages.{NonceRequest, SignatureShareRequest, Job}
 use Rattle.state_table.specs.States.{Position}
@@ -117,13 +116,13 @@ abbrev pub shown_of : Option NonceRequest → Option SignatureShareRequest → O
 shown_of n s m = record { nonce_request = n; share_request = s; malicious_ids = m }
 
 abbrev pub shown : Event → Shown
-shown (recorded id) = shown_of none none none
-shown (shares_taken id) = shown_of none none none
-shown (newly_malicious ids) = shown_of none none (some ids)
-shown (requested r) = shown_of (some r) none none
-shown retried = shown_of none none none
-shown (share_requested r) = shown_of none (some r) none
-shown (job_written j) = shown_of none none none
+shown (recorded id) = shown_of None None None
+shown (shares_taken id) = shown_of None None None
+shown (newly_malicious ids) = shown_of None None (Some ids)
+shown (requested r) = shown_of (Some r) None None
+shown retried = shown_of None None None
+shown (share_requested r) = shown_of None (Some r) None
+shown (job_written j) = shown_of None None None
 
 -- the nonce request and the share request that a step sends, and whom its share timeout excludes, if it fires
 abbrev pub nonce_request_in : List Event → Option NonceRequest

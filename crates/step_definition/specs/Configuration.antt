@@ -1,6 +1,5 @@
 -- The configuration (coordinator/mod.rs, Config, without the private key, which stays with the host), and commissioning's questions.
-use Rattle.std.specs.Prelude.{ℕ, ◌+◌, Bool, ◌&&◌, List, [], ◌∷◌, map, eqb, leb, length}
-use Rattle.std.proofs.Math.Option.{Option, some, none}
+use Rattle.std.specs.Prelude.{Option, Some, None, ℕ, ◌+◌, Bool, ◌&&◌, List, [], ◌∷◌, map, eqb, leb, length}
 use Rattle.wire.specs.Bytes.{every}
 use Rattle.layout.specs.Limits.{list_limit, signer_limit}
 use Rattle.step_definition.specs.Lists.{is_some, given, find, insert_by}
@@ -54,7 +53,7 @@ question3 g = leb (set_sizes g.signers) g.num_keys
 
 -- the configuration is kept with its ids and each key set ascending, so that those that are equal as the Rust's maps and sets are equal
 abbrev pub ascending_set : SignerConfig → SignerConfig
-ascending_set s = record { id = s.id; key_ids = given s.key_ids (λ (keys : List ℕ). some (insert_all keys [])) none }
+ascending_set s = record { id = s.id; key_ids = given s.key_ids (λ (keys : List ℕ). Some (insert_all keys [])) None }
 
 unfoldable pub ascending_signers : List SignerConfig → List SignerConfig
 ascending_signers [] = []
@@ -83,7 +82,7 @@ configured g id = is_some (signer_of g id)
 
 -- the signer's key set entry
 abbrev pub key_set_of : Config → ℕ → Option (List ℕ)
-key_set_of g id = given (signer_of g id) (λ (s : SignerConfig). s.key_ids) none
+key_set_of g id = given (signer_of g id) (λ (s : SignerConfig). s.key_ids) None
 
 -- compute_num_key_ids: the sizes of these signers' key sets, summed
 unfoldable pub num_key_ids : Config → List ℕ → ℕ

@@ -1,7 +1,6 @@
 -- The coordinator as a value: the fields of fire.rs's Coordinator that signing uses, maps and sets as lists that ascend by signer id.
 -- Fields that change together stand together.
-use Rattle.std.specs.Prelude.{ℕ, Bool, false, List, [], ◌∷◌, eqb}
-use Rattle.std.proofs.Math.Option.{Option, none}
+use Rattle.std.specs.Prelude.{Option, None, ℕ, Bool, false, List, [], ◌∷◌, eqb}
 use Rattle.wire.specs.Bytes.{are_same_bytes}
 use Rattle.layout.specs.declared.Ids.{Ids}
 use Rattle.layout.specs.Messages.{NonceResponse, SignatureShare, Arrival}
@@ -69,7 +68,7 @@ abbrev pub no_keys : Keys
 no_keys = record { coordinator_public_key = false; aggregate_public_key = false }
 
 abbrev pub no_clocks : Clocks
-no_clocks = record { nonce_start = none; sign_start = none }
+no_clocks = record { nonce_start = None; sign_start = None }
 
 abbrev pub fresh : Config → Coordinator
 fresh g =

@@ -1,14 +1,12 @@
 -- Question 4, "its counts within these limits", of a coordinator as a value: what a host's struct that passes 4 has to stand for. And
 -- numbers that fit their fields, which every struct's do.
-use Rattle.std.specs.Prelude.{ℕ, Bool, ◌&&◌, leb, length}
+use Rattle.std.specs.Prelude.{ℕ, Bool, ◌&&◌, leb, length, None, Some}
 use Rattle.wire.specs.Bytes.{Bytes, every, All}
 use Rattle.layout.specs.Limits.{message_limit, list_limit, signer_limit, record_limit}
 use Rattle.layout.specs.Types.{type_number, root_length}
 use Rattle.layout.specs.Decode.{response_within, key_count}
 use Rattle.layout.specs.Fits.{IdsFit, Sized, ResponseFits, ShareFits}
-use Rattle.state_table.specs.declared.StateType.{StateType}
-use Rattle.state_table.specs.declared.StateType.TheVariants.{Untyped, Typed}
-use Rattle.state_table.specs.States.{type_in}
+use Rattle.state_table.specs.States.{type_in, StateType}
 use Rattle.step_definition.specs.Configuration.{Config, SignerConfig, keys_in, question3}
 use Rattle.step_definition.specs.Coordinator.{Coordinator, SignRoundInfo, SignerShares}
 use Rattle.step_definition.specs.Calls.{Brought, a_packet, a_start, a_key, no_more}
@@ -46,8 +44,8 @@ within_limits c =
 
 -- the root beside a state: 32 bytes for a Taproot root, else none
 abbrev pub root_size : StateType → ℕ
-root_size Untyped = 0
-root_size (Typed t) = root_length (type_number t)
+root_size None = 0
+root_size (Some t) = root_length (type_number t)
 
 -- the numbers of a coordinator fit their fields: those that a nonce request tells, and all that packets tell
 pub record RoundFits (c : Coordinator) : Type 0 where

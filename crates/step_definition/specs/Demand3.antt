@@ -1,6 +1,5 @@
 -- Demand 3's words: the opening call, lists of later calls, and the first share request of a run.
-use Rattle.std.specs.Prelude.{ℕ, ◌<◌, ◌≡◌, Bool, true, false, List, [], ◌∷◌, map}
-use Rattle.std.proofs.Math.Option.{Option, some, none}
+use Rattle.std.specs.Prelude.{Option, Some, None, ℕ, ◌<◌, ◌≡◌, Bool, true, false, List, [], ◌∷◌, map}
 use Rattle.wire.specs.Bytes.{All}
 use Rattle.layout.specs.declared.Ids.{Ids}
 use Rattle.layout.specs.Messages.{NonceRequest, NonceResponse, SignatureShareRequest}
@@ -15,7 +14,7 @@ use Rattle.step_definition.specs.ResponseLog.{Opened, Page, Place, or_later}
 
 -- the call k on what h holds sends the nonce request r and leaves the coordinator c: "the opening call, which sends the nonce request"
 pub record Opens (k : Call) (h : Held) (r : NonceRequest) (c : Coordinator) : Type 0 where
-  pub sends : nonce_request_in (step k h).events ≡ some r
+  pub sends : nonce_request_in (step k h).events ≡ Some r
   pub leaves : (step k h).after ≡ commissioned c
 
 -- "equal configuration, key-generation results, held keys and struck list once that call has answered"
@@ -56,7 +55,7 @@ Plain (k ∷ ks) h = (plain_request k.request ≡ true) × (group_key_in h ≡ t
 
 -- the first call of a run that sends a share request, by its place, with the request
 unfoldable pub first_share_request : List Call → Held → Option Place
-first_share_request [] h = none
+first_share_request [] h = None
 first_share_request (k ∷ ks) h = or_later (share_request_in (step k h).events) (first_share_request ks (step k h).after)
 
 -- a record as the log has it: the message and its responses
@@ -69,7 +68,7 @@ pub record FromSigner (s : Standing) (current : Ids) (q : NonceResponse) : Type 
   pub key_generated : member q.signer_id s.dkg_end_messages ≡ true
   pub not_malicious : member q.signer_id s.malicious_signer_ids ≡ false
   pub key_set : List ℕ
-  pub entry : key_set_of s.config q.signer_id ≡ some key_set
+  pub entry : key_set_of s.config q.signer_id ≡ Some key_set
   pub exact : same_set q.key_ids key_set ≡ true
   pub ids : q.ids ≡ current
 

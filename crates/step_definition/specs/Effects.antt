@@ -1,6 +1,5 @@
 -- What fire.rs's functions change, and the packets that they send.
-use Rattle.std.specs.Prelude.{ℕ, Bool, false, ◌&&◌, List, [], ◌∷◌, ◌++◌, take}
-use Rattle.std.proofs.Math.Option.{some}
+use Rattle.std.specs.Prelude.{Some, ℕ, Bool, false, ◌&&◌, List, [], ◌∷◌, ◌++◌, take}
 use Rattle.wire.specs.Bytes.{every}
 use Rattle.layout.specs.declared.SignatureType.{SignatureType}
 use Rattle.layout.specs.Types.{type_number, root_length}
@@ -20,7 +19,7 @@ root_for t root = take (root_length (type_number t)) root
 -- request_nonces: the records are emptied, the iteration grows by 1, wrapping, and the clock is started; shares and the share clock stay
 abbrev pub request_nonces : ℕ → SignatureType → List ℕ → Coordinator → Coordinator
 request_nonces now t root c =
-    with_clocks (record { nonce_start = some now; sign_start = c.round.clocks.sign_start })
+    with_clocks (record { nonce_start = Some now; sign_start = c.round.clocks.sign_start })
     (with_position (position (NonceGather t) root) (with_records [] (with_iteration (next c.ids.sign_iter_id) c)))
 
 -- the nonce request that leaves, of the coordinator after
@@ -39,7 +38,7 @@ recv_key_ids g (q ∷ qs) = insert_all (keys_in (key_set_of g q.signer_id)) (rec
 -- request_sig_shares: the shares are emptied and the share clock is started
 abbrev pub request_shares : ℕ → SignatureType → List ℕ → Coordinator → Coordinator
 request_shares now t root c =
-    with_clocks (record { nonce_start = c.round.clocks.nonce_start; sign_start = some now })
+    with_clocks (record { nonce_start = c.round.clocks.nonce_start; sign_start = Some now })
     (with_position (position (SigShareGather t) root) (with_shares [] c))
 
 -- the share request: the message and its recorded responses, each as it was sent

@@ -1,21 +1,13 @@
--- Lists that stand for the Rust's maps: the first that passes a test, the first that passes changed, one put in its place by its number.
-use Rattle.std.specs.Prelude.{ℕ, Bool, true, false, cond, List, [], ◌∷◌, eqb, ltb}
-use Rattle.std.proofs.Math.Option.{Option, some, none}
-
--- whether there is one
-abbrev pub is_some : {A : Type 0} → Option A → Bool
-is_some none = false
-is_some (some a) = true
+-- Lists that stand for the Rust's maps: the first that passes a test (std's find), the first that passes changed, one put in its place by
+-- its number.
+use Rattle.std.specs.Prelude.{Option, Some, None, ℕ, Bool, cond, List, [], ◌∷◌, eqb, ltb}
+pub use Rattle.std.specs.Option.{is_some}
+pub use Rattle.std.specs.List.{find}
 
 -- what is made of the one that is there; else b
 abbrev pub given : {A B : Type 0} → Option A → (A → B) → B → B
-given none f b = b
-given (some a) f b = f a
-
--- the first that passes
-unfoldable pub find : {A : Type 0} → (A → Bool) → List A → Option A
-find p [] = none
-find p (x ∷ xs) = cond (p x) (some x) (find p xs)
+given None f b = b
+given (Some a) f b = f a
 
 -- the first that passes changed by f; where none passes, `new` comes at the end
 unfoldable pub change : {A : Type 0} → (A → Bool) → (A → A) → List A → List A → List A
@@ -29,5 +21,5 @@ insert_by key x (y ∷ ys) = cond (ltb (key x) (key y)) (x ∷ (y ∷ ys)) (cond
 
 -- what the first says of which anything is said
 unfoldable pub first : {A B : Type 0} → (A → Option B) → List A → Option B
-first f [] = none
-first f (x ∷ xs) = given (f x) some (first f xs)
+first f [] = None
+first f (x ∷ xs) = given (f x) Some (first f xs)

@@ -1,6 +1,5 @@
 -- What is looked at of a state and of a message when a packet comes: three states gather, and four kinds of message are heard in them.
-use Rattle.std.specs.Prelude.{ℕ, Bool, true, false}
-use Rattle.std.proofs.Math.Option.{Option, some, none}
+use Rattle.std.specs.Prelude.{Option, Some, None, ℕ, Bool, true, false}
 use Rattle.layout.specs.declared.SignatureType.{SignatureType}
 use Rattle.layout.specs.Messages.{NonceRequest, NonceResponse, SignatureShareResponse, Message}
 use Rattle.layout.specs.Messages.{nonce_request, nonce_response, signature_share_request, signature_share_response, dkg_begin, dkg_signer, dkg_coordinator}
@@ -56,15 +55,15 @@ content_of (dkg_signer signer dkg) = unheard
 content_of (dkg_coordinator dkg) = unheard
 
 abbrev pub nonce_response_in : Content → Option NonceResponse
-nonce_response_in (a_nonce_request r) = none
-nonce_response_in (a_nonce_response q) = some q
-nonce_response_in (a_share_response r) = none
-nonce_response_in (a_dkg_begin dkg) = none
-nonce_response_in unheard = none
+nonce_response_in (a_nonce_request r) = None
+nonce_response_in (a_nonce_response q) = Some q
+nonce_response_in (a_share_response r) = None
+nonce_response_in (a_dkg_begin dkg) = None
+nonce_response_in unheard = None
 
 abbrev pub share_response_in : Content → Option SignatureShareResponse
-share_response_in (a_nonce_request r) = none
-share_response_in (a_nonce_response q) = none
-share_response_in (a_share_response r) = some r
-share_response_in (a_dkg_begin dkg) = none
-share_response_in unheard = none
+share_response_in (a_nonce_request r) = None
+share_response_in (a_nonce_response q) = None
+share_response_in (a_share_response r) = Some r
+share_response_in (a_dkg_begin dkg) = None
+share_response_in unheard = None

@@ -1,7 +1,6 @@
 -- "The questions, in order. A number is given where the answer is no, and only there." Each question of a commissioned coordinator is a
 -- definition of its own; 1 to 3 stand with the configuration, 8 and 9 with the layout.
-use Rattle.std.specs.Prelude.{ℕ, ◌-◌, Bool, true, false, cond, not, ◌&&◌, ◌||◌, List, eqb, ltb, leb, length}
-use Rattle.std.proofs.Math.Option.{Option, some, none}
+use Rattle.std.specs.Prelude.{Option, Some, None, ℕ, ◌-◌, Bool, true, false, cond, not, ◌&&◌, ◌||◌, List, eqb, ltb, leb, length}
 use Rattle.wire.specs.Bytes.{every}
 use Rattle.layout.specs.Limits.{message_limit, signer_limit, record_limit, store_length, answer_length}
 use Rattle.layout.specs.Types.{signer_kind}
@@ -64,10 +63,10 @@ before k o c =
     cond (question4 k.store)
     (cond (not (asks o).no_job || question5 c)
     (cond (not (asks o).a_job || question6 c)
-    (cond (not (asks o).room || question7 k.room) none (some 7))
-    (some 6))
-    (some 5))
-    (some 4)
+    (cond (not (asks o).room || question7 k.room) None (Some 7))
+    (Some 6))
+    (Some 5))
+    (Some 4)
 
 -- 9 of a start: "message ≤ 256 bytes"
 unfoldable pub question9 : List ℕ → Bool
@@ -83,9 +82,9 @@ question11 c t root = can_move_to c.position (position (NonceRequest t) root)
 
 -- "A timeout fires only where elapsed > timeout; None never fires"; "backward counts as elapsed 0"
 unfoldable pub fires : ℕ → Option ℕ → Option ℕ → Bool
-fires now none timeout = false
-fires now (some start) none = false
-fires now (some start) (some timeout) = ltb timeout (now - start)
+fires now None timeout = false
+fires now (Some start) None = false
+fires now (Some start) (Some timeout) = ltb timeout (now - start)
 
 -- "record for the current message (12)?"
 unfoldable pub question12 : Coordinator → Bool

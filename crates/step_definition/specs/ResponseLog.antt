@@ -1,7 +1,6 @@
 -- 01, "Demand 3", the round's book: "fed the request, its clock, the four things that demand 3 wants equal, then each call's arguments,
 -- clock reading, buffer lengths and verdict. It starts empty." It looks at no coordinator and builds none.
-use Rattle.std.specs.Prelude.{ℕ, suc, ◌-◌, Bool, false, cond, not, ◌&&◌, ◌||◌, List, [], ◌∷◌, ◌++◌, eqb, ltb, leb, length}
-use Rattle.std.proofs.Math.Option.{Option, some, none}
+use Rattle.std.specs.Prelude.{Option, Some, None, ℕ, suc, ◌-◌, Bool, false, cond, not, ◌&&◌, ◌||◌, List, [], ◌∷◌, ◌++◌, eqb, ltb, leb, length}
 use Rattle.wire.specs.Bytes.{are_same_bytes}
 use Rattle.layout.specs.Limits.{record_limit, store_length, answer_length}
 use Rattle.layout.specs.declared.Ids.{Ids}
@@ -76,18 +75,18 @@ enters o l k entry q =
 -- 8 and 9: the kind 2 packet that the bytes are
 unfoldable pub response_in : Decoded → Option NonceResponse
 response_in (taken m) = nonce_response_in (content_of m)
-response_in (refused n) = none
+response_in (refused n) = None
 
 abbrev pub when : (NonceResponse → Bool) → Option NonceResponse → Option NonceResponse
-when f none = none
-when f (some q) = cond (f q) (some q) none
+when f None = None
+when f (Some q) = cond (f q) (Some q) None
 
 -- the entry that a call makes
 unfoldable pub entry_of : Opened → ResponseLog → Call → Brought → Option NonceResponse
 entry_of o l k (a_packet entry bytes) = when (enters o l k entry) (response_in (decode bytes))
-entry_of o l k (a_start s) = none
-entry_of o l k (a_key which held) = none
-entry_of o l k no_more = none
+entry_of o l k (a_start s) = None
+entry_of o l k (a_key which held) = None
+entry_of o l k no_more = None
 
 -- "a call that sets or clears held keys and isn't refused does so in the book too"
 unfoldable pub keys_after : Call → Brought → Keys → Keys
@@ -123,10 +122,10 @@ share_request_for o m qs =
 
 -- where a call's entry leaves its message with `sign_threshold` or more different key ids: the share request
 unfoldable pub completes : Opened → List Page → Option NonceResponse → Option SignatureShareRequest
-completes o ps none = none
-completes o ps (some q) =
+completes o ps None = None
+completes o ps (Some q) =
     let qs = entries_for q.message (enter q ps) in
-    cond (leb o.standing.config.sign_threshold (different_keys qs)) (some (share_request_for o q.message qs)) none
+    cond (leb o.standing.config.sign_threshold (different_keys qs)) (Some (share_request_for o q.message qs)) None
 
 -- the first call of a list that does so, by its place, with the share request
 pub record Place : Type 0 where
@@ -134,11 +133,11 @@ pub record Place : Type 0 where
   pub request : SignatureShareRequest
 
 unfoldable pub or_later : Option SignatureShareRequest → Option Place → Option Place
-or_later none rest = given rest (λ (p : Place). some (record { call = suc p.call; request = p.request })) none
-or_later (some r) rest = some (record { call = 0; request = r })
+or_later None rest = given rest (λ (p : Place). Some (record { call = suc p.call; request = p.request })) None
+or_later (Some r) rest = Some (record { call = 0; request = r })
 
 unfoldable pub first_named : Opened → ResponseLog → List Call → Option Place
-first_named o l [] = none
+first_named o l [] = None
 first_named o l (k ∷ ks) = or_later (completes o l.pages (entry_of o l k (brought k.request))) (first_named o (logged o l k) ks)
 
 -- the log after a list of calls

@@ -1,6 +1,5 @@
 -- Rounds begin: a start, and another coordinator's nonce request that comes in Idle.
-use Rattle.std.specs.Prelude.{ℕ, Bool, cond, List, [], ◌∷◌, eqb}
-use Rattle.std.proofs.Math.Option.{some}
+use Rattle.std.specs.Prelude.{Some, ℕ, Bool, cond, List, [], ◌∷◌, eqb}
 use Rattle.layout.specs.declared.SignatureType.{SignatureType}
 use Rattle.layout.specs.Messages.{NonceRequest, nonce_request}
 use Rattle.layout.specs.Encode.{encode}
@@ -38,7 +37,7 @@ start_round now s c =
 
 -- the start that a nonce request asks for
 abbrev pub start_of : NonceRequest → Start
-start_of r = record { message = r.message; signature_type = r.signature_type; root = r.root; sign_id = some r.ids.sign_id }
+start_of r = record { message = r.message; signature_type = r.signature_type; root = r.root; sign_id = Some r.ids.sign_id }
 
 -- Idle: "NonceRequest with a new sign id: group key held (10)?" "An Idle NonceRequest with the current sign id does nothing. Another sets
 -- the iteration to its number minus 1, wrapping, and `request_nonces` adds 1, wrapping. Its dkg id is not compared."

@@ -1,6 +1,6 @@
 -- The step: what each call answers and changes. Total: defined for every value and every call. The questions of each call stand in its
 -- own definition in the order in which they are asked.
-use Rattle.std.specs.Prelude.{ℕ, Bool, true, false, not, ◌||◌, List, [], ◌∷◌}
+use Rattle.std.specs.Prelude.{ℕ, Bool, true, false, not, ◌||◌, List, [], ◌∷◌, None, Some}
 use Rattle.layout.specs.declared.SignatureType.{SignatureType}
 use Rattle.layout.specs.declared.SignatureType.TheVariants.{Frost}
 use Rattle.layout.specs.declared.ResultKind.{ResultKind}
@@ -10,9 +10,7 @@ use Rattle.layout.specs.Messages.{NonceResponse, SignatureShareResponse, Message
 use Rattle.layout.specs.Encode.{encode_arrivals}
 use Rattle.layout.specs.Decode.{Decoded, taken, refused, decode}
 use Rattle.state_table.specs.declared.State.TheVariants.{Idle}
-use Rattle.state_table.specs.declared.StateType.{StateType}
-use Rattle.state_table.specs.declared.StateType.TheVariants.{Untyped, Typed}
-use Rattle.state_table.specs.States.{position, type_in}
+use Rattle.state_table.specs.States.{position, type_in, StateType}
 use Rattle.state_table.specs.Moves.{can_move_to}
 use Rattle.step_definition.specs.Lists.{given}
 use Rattle.step_definition.specs.Ids.{insert_all}
@@ -72,8 +70,8 @@ result_number SignTaproot = 2
 
 -- a state without a type gives the result kind of type 0
 abbrev pub type_or : StateType → SignatureType
-type_or Untyped = Frost
-type_or (Typed t) = t
+type_or None = Frost
+type_or (Some t) = t
 
 -- "Aggregator's answer: success (23)?" "Success moves to Idle with the result kind; failure is 23", and "the job is no longer out"
 unfoldable pub on_aggregated : Bool → Coordinator → Outcome

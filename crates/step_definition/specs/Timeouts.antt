@@ -1,6 +1,5 @@
 -- Timeouts. What one that yields a packet, a result or an error answers; none where it yields nothing.
-use Rattle.std.specs.Prelude.{ℕ, ◌-◌, cond, List, [], ◌∷◌, ltb}
-use Rattle.std.proofs.Math.Option.{Option, some, none}
+use Rattle.std.specs.Prelude.{Option, Some, None, ℕ, ◌-◌, cond, List, [], ◌∷◌, ltb}
 use Rattle.layout.specs.declared.SignatureType.{SignatureType}
 use Rattle.layout.specs.Encode.{encode_nonce_timeout, encode_insufficient_signers}
 use Rattle.step_definition.specs.Ids.{insert_all, without}
@@ -37,13 +36,13 @@ share_timeout now t root c =
     (sends_nonce_request t root after (newly_malicious new ∷ (requested (nonce_request_of t root after) ∷ (retried ∷ [])))))
 
 unfoldable pub timeout_in : ℕ → Phase → Coordinator → Option Outcome
-timeout_in now idling c = none
+timeout_in now idling c = None
 timeout_in now (gathering_nonces t) c =
-    cond (fires now c.round.clocks.nonce_start c.standing.config.timeouts.nonce) (some (nonce_timeout c)) none
+    cond (fires now c.round.clocks.nonce_start c.standing.config.timeouts.nonce) (Some (nonce_timeout c)) None
 timeout_in now (gathering_shares t) c =
     cond (fires now c.round.clocks.sign_start c.standing.config.timeouts.sign)
-    (some (share_timeout now t c.position.root c)) none
-timeout_in now resting c = none
+    (Some (share_timeout now t c.position.root c)) None
+timeout_in now resting c = None
 
 abbrev pub timeout : ℕ → Coordinator → Option Outcome
 timeout now c = timeout_in now (phase_of c.position.state) c

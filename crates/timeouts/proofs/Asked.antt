@@ -1,14 +1,13 @@
 -- 12 by the place of the current message's record, and the result that was written.
 -- Assumes nothing.
+use Rattle.std.specs.Prelude.{Ok}
 use Prim.Native.Nat.{ℕ, ◌≤◌, ◌<◌}
 use mathlib.Core.Path.{◌≡◌, refl}
 use mathlib.Core.List.{List, []}
 use borrow.Author.Tests.{lt-ltb, le-ltb}
 use lib.ListN.{length, get_or}
 use Rattle.layout.specs.Encode.{encode_nonce_timeout}
-use Rattle.framing.specs.declared.Written.{Written}
-use Rattle.framing.specs.declared.Written.TheVariants.{Bytes}
-use Rattle.framing.specs.Writing.{Wrote, written, answer, buffer}
+use Rattle.framing.specs.Writing.{Wrote, written, answer, buffer, Written}
 use Rattle.state.specs.declared.answers.Class.TheVariants.{Result}
 use Rattle.state.specs.declared.answers.Done.{Done}
 use Rattle.state.specs.declared.fields.Coordinator.{Coordinator}
@@ -26,7 +25,7 @@ module _ (s : Coordinator) (store : List ℕ) (p : ℕ) (at : p ≡ current_plac
   abbrev bytes : List ℕ
   bytes = encode_nonce_timeout (waiters_in s.config (get_or s.records.rows p no_row)) (flagged_signers s.config s.marks.malicious)
 
-  pub bytes_written : {out out' : List ℕ} {w : Written} → Wrote (written bytes) out w out' → w ≡ Bytes (length bytes)
+  pub bytes_written : {out out' : List ℕ} {w : Written} → Wrote (written bytes) out w out' → w ≡ Ok (length bytes)
   unfolding answer
   bytes_written w = w.answered
 

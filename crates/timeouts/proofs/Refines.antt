@@ -22,7 +22,7 @@ use Rattle.timeouts.specs.NonceTimeout.{current_place, record_asked, nonce_timeo
 pub nonce_timeout_refines :
     (s : Coordinator) (store : List ℕ) → Shaped s → s.commissioned ≡ true → is_within_limits s ≡ true
     → Refines (nonce_timeout_turn s store) (nonce_timeout (coordinator_of s store))
-unfolding nonce_timeout_turn nonce_timeout record_asked nonce_timeout_bytes current_place question12 unless find coordinator_of round_of row_of standing_of
+unfolding nonce_timeout_turn nonce_timeout record_asked nonce_timeout_bytes current_place question12 unless coordinator_of round_of row_of standing_of
 nonce_timeout_refines s store shaped b w = by (ltb (current_place s store) s.records.count) refl
   where
     m : List ℕ

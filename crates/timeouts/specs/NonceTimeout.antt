@@ -1,13 +1,12 @@
 -- A nonce timeout at the level of struct and store. Both stay.
-use Rattle.std.specs.Prelude.{ℕ, ◌≤◌, cond, List, ltb, take, get_or}
+use Rattle.std.specs.Prelude.{ℕ, ◌≤◌, cond, List, ltb, take, get_or, Err, Ok}
 use Rattle.layout.specs.Limits.{message_limit, signer_limit, record_limit, answer_length}
 use Rattle.layout.specs.Encode.{encode_nonce_timeout}
 use Rattle.step_definition.specs.Calls as A
-use Rattle.state.specs.declared.answers.Passed.{Passed}
-use Rattle.state.specs.declared.answers.Passed.TheVariants.{Yes, No}
 use Rattle.state.specs.declared.fields.Coordinator.{Coordinator}
 use Rattle.state.specs.View.{no_row}
 use Rattle.state.specs.Turns.{Turn, turn, unless}
+use Rattle.state.specs.Passed.{Passed}
 use Rattle.records.specs.Records.{record_place}
 use Rattle.timeouts.specs.Named.{waiters_in, flagged_signers}
 
@@ -23,7 +22,7 @@ current_place s store = record_place (take s.message.len s.message.bytes) s.reco
 
 -- "no record for the current message" (12)
 unfoldable pub record_asked : Coordinator → List ℕ → Passed
-record_asked s store = cond (ltb (current_place s store) s.records.count) Yes (No 12)
+record_asked s store = cond (ltb (current_place s store) s.records.count) (Ok tt) (Err 12)
 
 unfoldable pub nonce_timeout_bytes : Coordinator → List ℕ → List ℕ
 nonce_timeout_bytes s store =

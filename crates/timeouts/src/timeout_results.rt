@@ -1,11 +1,10 @@
 // The results of the two timeouts, written from the struct: the waiters and the malicious signers, ascending.
 ghost use Rattle.std.specs.Prelude.{◌≤◌, length};
-ghost use Rattle.layout.specs.Limits.{signer_limit, answer_length};
+ghost use Rattle.layout.specs.Limits.{answer_length};
 ghost use Rattle.layout.specs.Encode.{encode_nonce_timeout, encode_insufficient_signers};
 ghost use Rattle.framing.specs.Writing.{Wrote, written};
 ghost use Rattle.timeouts.specs.Named.{waiters_in, flagged_signers};
 
-use framing::Written;
 use layout::SIGNER_LIMIT;
 use signers::order;
 use state::fields::{Config, SignRoundInfo};
@@ -15,14 +14,13 @@ pub fn write_nonce_timeout(
     g: Config,
     row: SignRoundInfo,
     malicious: [bool; SIGNER_LIMIT],
-) -> Written
-    requires { (g.count ≤ signer_limit) × (answer_length ≤ length out.old) }
+) -> Result<usize, u8>
+    requires { answer_length ≤ length out.old }
     ensures { Wrote (written (encode_nonce_timeout (waiters_in g row) (flagged_signers g malicious)))
         out.old result out.new }
 {
     let walked = order::ascending(g);
-    let waits = signer_ids::waiting(row);
-    let waiters = signer_ids::flagged_ids(walked, waits);
+    let waiters = signer_ids::flagged_ids(walked, signer_ids::waiting(row));
     let malicious_ids = signer_ids::flagged_ids(walked, malicious);
     writer::results::write_nonce_timeout(out, waiters, malicious_ids)
 }
@@ -31,11 +29,10 @@ pub fn write_insufficient_signers(
     out: &mut [u8],
     g: Config,
     malicious: [bool; SIGNER_LIMIT],
-) -> Written
-    requires { (g.count ≤ signer_limit) × (answer_length ≤ length out.old) }
+) -> Result<usize, u8>
+    requires { answer_length ≤ length out.old }
     ensures { Wrote (written (encode_insufficient_signers (flagged_signers g malicious))) out.old result out.new }
 {
-    let walked = order::ascending(g);
-    let named = signer_ids::flagged_ids(walked, malicious);
+    let named = signer_ids::flagged_ids(order::ascending(g), malicious);
     writer::results::write_insufficient_signers(out, named)
 }

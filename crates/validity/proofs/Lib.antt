@@ -2,3 +2,5 @@
 pub mod Places
 pub mod Repeats
 pub mod Rounds
+pub mod Sets
+pub mod Chunks

@@ -8,6 +8,7 @@ use native.Mathlib.Numerals.{add-one}
 use native.Mathlib.Omega.{arith}
 use lib.ListN.{length, get_or, set, take, drop, length-map, length-take, drop_of_length-le, get_or-map}
 use lib.Seq.{take-nil, take_all, take-suc, set_at, drop-cons, drop-drop, get_or-take, length-take-le, take-append_seam}
+use Rattle.std.proofs.lemmas.List.{take-map}
 use mir.Val.{Val}
 use denote.Laws.{Is}
 use Rattle.wire.specs.Bytes.{number, number_at}
@@ -51,14 +52,15 @@ pub keys_end : (ids : List KeyId) (n i : ℕ) → n ≤ i → drop i (keys n ids
 keys_end ids n i h = drop_of_length-le (keys n ids) {i = i} (rw (length-take, length-map) (omega arith))
 
 -- a count above sixteen lists what sixteen does
-pub keys-listed : (k : KeyIds) (n : ℕ) → length k.ids ≡ 16 → n ≡ min k.count 16 → keys n k.ids ≡ listed k
+keys-listed : (k : KeyIds) (n : ℕ) → length k.ids ≡ 16 → n ≡ min k.count 16 → keys n k.ids ≡ listed k
 unfolding listed
 keys-listed k n h e =
     let m : min k.count (length (map key_number k.ids)) ≡ n = rw (length-map, h, e) in
     rw m at (take_min (map key_number k.ids) k.count)
 
-pub length-listed : (k : KeyIds) → length k.ids ≡ 16 → length (listed k) ≡ min k.count 16
-length-listed k h = let n = min k.count 16 in rw (keys-listed k n h refl) at (length-keys k.ids n (omega arith))
+-- the same as a slice of the places
+pub listed_places : (k : KeyIds) (n : ℕ) → length k.ids ≡ 16 → n ≡ min k.count 16 → map key_number (take n k.ids) ≡ listed k
+listed_places k n h e = sym (take-map key_number n k.ids) ∙ keys-listed k n h e
 
 -- the ith entry of w bytes
 entry_at : (w k i : ℕ) (s : List ℕ) → i < k → get_or (entries w k s) i [] ≡ take w (drop (w * i) s)
@@ -68,7 +70,7 @@ entry_at w (suc k) (suc i) s h = rw (entry_at w k i (drop w s) (omega arith), dr
 entry_at w zero i s h = elim h [ ]
 
 -- the ith id
-pub id_at : (s : List ℕ) (i : ℕ) → i < length s / 4 → get_or (ids_in s) i 0 ≡ number_at 4 (4 * i) s
+id_at : (s : List ℕ) (i : ℕ) → i < length s / 4 → get_or (ids_in s) i 0 ≡ number_at 4 (4 * i) s
 unfolding ids_in number
 id_at s i h = get_or-map number (entries 4 (length s / 4) s) i [] ∙ ap number (entry_at 4 (length s / 4) i s h)
 

@@ -1,6 +1,7 @@
 -- "Key lists are compared as sets: repeats and order pass." And 02, d): the comparison "also give[s] the number of entries that repeat an
 -- earlier entry".
-use Rattle.std.specs.Prelude.{ℕ, min, ◌+◌, ◌-◌, ◌/◌, Bool, false, cond, not, ◌&&◌, ◌||◌, List, [], ◌∷◌, ◌++◌, map, eqb, length, get_or, take, replicate}
+use Rattle.std.specs.Prelude.{ℕ, min, ◌+◌, ◌-◌, ◌/◌, Bool, cond, not, ◌&&◌, List, [], ◌∷◌, ◌++◌, map, eqb, length, get_or, take, replicate}
+use Rattle.std.specs.List.{list_any}
 use Rattle.wire.specs.Bytes.{every}
 use Rattle.layout.specs.declared.KeyId.{KeyId}
 use Rattle.layout.specs.Limits.{list_limit}
@@ -35,9 +36,8 @@ key_at k i = key_number (get_or k.ids i (key_of 0))
 abbrev pub keys_before : KeyIds → ℕ → List ℕ
 keys_before k i = take i (map key_number k.ids)
 
-unfoldable pub member : ℕ → List ℕ → Bool
-member x [] = false
-member x (y ∷ ys) = eqb x y || member x ys
+abbrev pub member : ℕ → List ℕ → Bool
+member x ys = list_any (eqb x) ys
 
 -- every key of xs is in ys
 unfoldable pub subset : List ℕ → List ℕ → Bool

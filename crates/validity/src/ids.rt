@@ -15,5 +15,5 @@ pub fn last_byte(id: u32) -> usize
 pub fn both(all: bool, one: bool) -> bool
     ensures { result ≡ (one && all) }
 {
-    if one { all } else { false }
+    all & one
 }

@@ -1,8 +1,8 @@
 // Key lists by value, and their comparison as sets: order and repeats don't count, and how often an entry repeats an earlier one is told.
-ghost use Rattle.std.specs.Prelude.{◌≡◌, false, cond, min, ◌<◌};
+ghost use Rattle.std.specs.Prelude.{◌≡◌, false, map};
+ghost use Rattle.std.specs.List.{list_all};
 ghost use Rattle.wire.specs.Bytes.{are_same_bytes};
-ghost use Rattle.layout.specs.Limits.{list_limit};
-ghost use Rattle.validity.specs.Keys.{key_list, listed, key_at, keys_before, member, subset, same_set, repeats, comparison};
+ghost use Rattle.validity.specs.Keys.{key_number, key_list, listed, member, same_set, repeats, comparison};
 
 use crate::ids;
 use layout::KeyId;
@@ -22,14 +22,13 @@ pub struct KeyComparison {
     pub repeats: usize,
 }
 
-// How many places of a list count: at most the sixteen that there are.
-fn live(count: usize) -> usize
-    ensures { result ≡ min count list_limit }
-{
-    if count < layout::LIST_LIMIT {
-        count
-    } else {
-        layout::LIST_LIMIT
+impl KeyIds {
+    // The ids that count: at most the sixteen that there are.
+    #[tactic(auto, using(crate::proofs::Places::listed_places))]
+    pub fn listed(&self) -> &[KeyId]
+        ensures { map key_number result.now ≡ listed self.now }
+    {
+        &self.ids[..self.count.min(layout::LIST_LIMIT)]
     }
 }
 
@@ -38,112 +37,70 @@ pub fn key_list(s: &[u8]) -> KeyIds
     ensures { result ≡ key_list s.now }
 {
     let mut ids = [KeyId(0); layout::LIST_LIMIT];
-    let count = live(s.len() / layout::ID_LENGTH);
-    let mut i: usize = 0;
-    while i < count {
+    let count = (s.len() / layout::ID_LENGTH).min(layout::LIST_LIMIT);
+    // The index is both the place that is filled and where the id stands in the part.
+    for i in 0..count {
         ids[i] = KeyId(wire::u32_at(s, layout::ID_LENGTH * i));
-        i += 1;
     }
     KeyIds { ids, count }
 }
 
-fn is_member(key: KeyId, list: KeyIds) -> bool
-    ensures { result ≡ member key.0 (listed list) }
+#[tactic(auto, using(crate::proofs::Sets::member_any))]
+fn is_member(key: KeyId, ids: &[KeyId]) -> bool
+    ensures { result ≡ member key.0 (map key_number ids.now) }
 {
-    let ids = list.ids;
-    let count = live(list.count);
-    let mut i: usize = 0;
-    while i < count {
-        let other = ids[i];
-        if key.0 == other.0 {
-            return true;
-        }
-        i += 1;
-    }
-    false
+    ids.contains(&key)
 }
 
-fn is_subset(list: KeyIds, set: KeyIds) -> bool
-    ensures { result ≡ subset (listed list) (listed set) }
+// Whether each key of the list is in the set.
+fn is_subset(list: &[KeyId], set: &[KeyId]) -> bool
+    ensures { result ≡ list_all (λ x. member (key_number x) (map key_number set.now)) list.now }
 {
-    let ids = list.ids;
-    let count = live(list.count);
-    let mut i: usize = 0;
-    while i < count {
-        let key = ids[i];
-        if !is_member(key, set) {
-            return false;
-        }
-        i += 1;
-    }
-    true
+    list.iter().all(|key| is_member(*key, set))
 }
 
 // The same keys in the same places. Each is looked at, so that the loop has one end and is compiled to wide comparisons.
-fn is_equal(list: KeyIds, set: KeyIds) -> bool
-    ensures { result ≡ are_same_bytes (listed list) (listed set) }
+fn is_equal(list: &[KeyId], set: &[KeyId]) -> bool
+    ensures { result ≡ are_same_bytes (map key_number list.now) (map key_number set.now) }
 {
-    let ids = list.ids;
-    let others = set.ids;
-    let count = live(list.count);
-    let mut all = live(set.count) == count;
-    let mut i: usize = 0;
-    while i < count {
-        let key = ids[i];
-        let other = others[i];
-        all = ids::both(all, key.0 == other.0);
-        i += 1;
+    if list.len() != set.len() {
+        return false;
     }
-    all
+    let mut so_far = true;
+    for (i, key) in list.iter().enumerate() {
+        so_far &= *key == set[i];
+    }
+    so_far
 }
 
 // A list that is the set place by place is looked for first: many signers list their keys so.
-fn is_same_set(list: KeyIds, set: KeyIds) -> bool
-    ensures { result ≡ same_set (listed list) (listed set) }
+#[tactic(auto, using(crate::proofs::Sets::same_lists, crate::proofs::Sets::subset_all), unfolding(crate::specs::Keys::same_set))]
+fn is_same_set(list: &[KeyId], set: &[KeyId]) -> bool
+    ensures { result ≡ same_set (map key_number list.now) (map key_number set.now) }
 {
-    if is_equal(list, set) {
-        return true;
-    }
-    if !is_subset(list, set) {
-        return false;
-    }
-    is_subset(set, list)
+    is_equal(list, set) || (is_subset(list, set) && is_subset(set, list))
 }
 
-// Whether the key at a place is among those before it; they are looked through only where that may be.
-fn is_repeat(list: KeyIds, i: usize, may_be: bool) -> bool
-    requires { (i < list_limit) × (may_be ≡ false → member (key_at list i) (keys_before list i) ≡ false) }
-    ensures { result ≡ member (key_at list i) (keys_before list i) }
+// Whether a key is among those before it; they are looked through only where that may be.
+fn is_repeat(key: KeyId, before: &[KeyId], may_be: bool) -> bool
+    requires { may_be ≡ false → member key.0 (map key_number before.now) ≡ false }
+    ensures { result ≡ member key.0 (map key_number before.now) }
 {
-    if !may_be {
-        return false;
-    }
-    let ids = list.ids;
-    let key = ids[i];
-    is_member(key, KeyIds { ids, count: i })
+    may_be && is_member(key, before)
 }
 
-fn one_if(b: bool) -> usize
-    ensures { result ≡ cond b 1 0 }
+// How many keys are among those before them. One can be a repeat only where its last byte is noted.
+fn count_repeats(list: &[KeyId]) -> usize
+    ensures { result ≡ repeats (map key_number list.now) }
 {
-    if b { 1 } else { 0 }
-}
-
-// How many keys are among those before them.
-fn count_repeats(list: KeyIds) -> usize
-    ensures { result ≡ repeats (listed list) }
-{
-    let ids = list.ids;
-    let count = live(list.count);
     let mut seen = [false; ids::LAST_BYTES];
     let mut found: usize = 0;
-    let mut i: usize = 0;
-    while i < count {
-        let key = ids[i];
+    for (i, key) in list.iter().enumerate() {
         let last = ids::last_byte(key.0);
-        found += one_if(is_repeat(list, i, seen[last]));
+        if is_repeat(*key, &list[..i], seen[last]) {
+            found += 1;
+        }
         seen[last] = true;
-        i += 1;
     }
     found
 }
@@ -153,7 +110,7 @@ pub fn compare(list: KeyIds, set: KeyIds) -> KeyComparison
     ensures { result ≡ comparison (listed list) (listed set) }
 {
     KeyComparison {
-        same: is_same_set(list, set),
-        repeats: count_repeats(list),
+        same: is_same_set(list.listed(), set.listed()),
+        repeats: count_repeats(list.listed()),
     }
 }

@@ -1,5 +1,6 @@
 // Nonce validity, by bytes: neither point of a nonce is the identity or the generator. The host vouches for other points.
-ghost use Rattle.std.specs.Prelude.{◌≡◌, take, drop};
+ghost use Rattle.std.specs.Prelude.{◌≡◌, ◌*◌, ◌/◌, length, take, drop};
+ghost use Rattle.std.specs.List.{list_all, range_with_len};
 ghost use Rattle.validity.specs.Nonces.{valid_point, valid_nonce, nonces_valid};
 ghost use Rattle.layout.specs.Decode.{nonce_in, nonces_in};
 
@@ -11,50 +12,38 @@ const GENERATOR: [u8; layout::POINT_LENGTH] = [
     0x98,
 ];
 
+#[tactic(auto, unfolding(crate::specs::Nonces::valid_point))]
 fn is_valid_point(s: &[u8]) -> bool
     ensures { result ≡ valid_point s.now }
 {
-    let identity = IDENTITY;
-    if wire::same(s, &identity) {
-        return false;
-    }
-    let generator = GENERATOR;
-    !wire::same(s, &generator)
+    !wire::same(s, &IDENTITY) && !wire::same(s, &GENERATOR)
 }
 
 // A nonce: D, then E.
+#[tactic(auto, using(crate::proofs::Chunks::whole), unfolding(crate::specs::Nonces::valid_nonce, layout::specs::Decode::nonce_in))]
 fn is_valid_nonce(s: &[u8]) -> bool
     ensures { result ≡ valid_nonce (nonce_in s.now) }
 {
-    let d = wire::part(s, 0, layout::POINT_LENGTH);
-    if !is_valid_point(d) {
-        return false;
-    }
-    let e = wire::part(s, layout::POINT_LENGTH, s.len());
-    is_valid_point(e)
+    is_valid_point(wire::part(s, 0, layout::POINT_LENGTH))
+        && is_valid_point(wire::part(s, layout::POINT_LENGTH, s.len()))
 }
 
-// The nonce that starts at `at`.
-fn is_valid_nonce_at(s: &[u8], at: usize) -> bool
-    ensures { result ≡ valid_nonce (nonce_in (take 66 (drop at s.now))) }
+// Whether the nonce in each whole entry is valid.
+fn is_each_valid(s: &[u8]) -> bool
+    ensures { result ≡ list_all (λ i. valid_nonce (nonce_in (take 66 (drop (66 * i) s.now)))) (range_with_len 0 (length s.now / 66)) }
 {
-    let nonce = wire::part(s, at, layout::NONCE_LENGTH);
-    is_valid_nonce(nonce)
+    let count = s.len() / layout::NONCE_LENGTH;
+    (0..count).all(|i| is_valid_nonce(wire::part(
+        s,
+        layout::NONCE_LENGTH * i,
+        layout::NONCE_LENGTH,
+    )))
 }
 
-// Every nonce of a list is valid; a list's nonces are its whole entries.
+// Every nonce of a list is valid; a list's nonces are its whole entries. They are counted, since what std promises of `chunks_exact`
+// names no list of them.
 pub fn are_valid(s: &[u8]) -> bool
     ensures { result ≡ nonces_valid (nonces_in s.now) }
 {
-    let count = s.len() / layout::NONCE_LENGTH;
-    let mut i: usize = 0;
-    let mut at: usize = 0;
-    while i < count {
-        if !is_valid_nonce_at(s, at) {
-            return false;
-        }
-        at += layout::NONCE_LENGTH;
-        i += 1;
-    }
-    true
+    is_each_valid(s)
 }

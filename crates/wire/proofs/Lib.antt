@@ -4,3 +4,4 @@ pub mod Fields
 pub mod Buffer
 pub mod Lists
 pub mod SameBytes
+pub mod Std

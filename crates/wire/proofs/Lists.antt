@@ -7,8 +7,7 @@ use mathlib.Core.List.{List, [], ◌∷◌, ◌++◌, map, append_assoc}
 use native.Mathlib.Nat.{zero-mul, suc-mul, add_comm}
 use native.Mathlib.Omega.{arith}
 use lib.ListN.{length, get_or, length-append}
-use Rattle.wire.specs.Bytes.{Bytes, joined, every, All}
-use Rattle.wire.proofs.Numbers.{bytes_append}
+use Rattle.wire.specs.Bytes.{joined, every, All}
 
 -- a chain of tests passes where each does
 pub and_left : (a b : Bool) → a && b ≡ true → a ≡ true
@@ -39,23 +38,19 @@ and_yes false r e = refl
 module _ {A : Type 0} where
   -- what passes at every element passes at each
   pub the_every_at : (f : A → Bool) (xs : List A) (i : ℕ) (d : A) → every f xs ≡ true → i < length xs → f (get_or xs i d) ≡ true
-  unfolding every
   the_every_at f [] i d e h = let z : ⊥ = omega arith in absurd z
   the_every_at f (x ∷ xs) zero d e h = and_left (f x) (every f xs) e
   the_every_at f (x ∷ xs) (suc i) d e h = the_every_at f xs i d (and_right (f x) (every f xs) e) (omega arith)
 
   pub every_all : (f : A → Bool) (xs : List A) → every f xs ≡ true → All (λ (x : A). f x ≡ true) xs
-  unfolding every
   every_all f [] e = tt
   every_all f (x ∷ xs) e = (and_left (f x) (every f xs) e, every_all f xs (and_right (f x) (every f xs) e))
 
   pub all_every : (f : A → Bool) (xs : List A) → All (λ (x : A). f x ≡ true) xs → every f xs ≡ true
-  unfolding every
   all_every f [] h = refl
   all_every f (x ∷ xs) h = and_both (f x) (every f xs) h.0 (all_every f xs h.1)
 
   pub every_append : (f : A → Bool) (xs ys : List A) → every f (xs ++ ys) ≡ (every f xs && every f ys)
-  unfolding every
   every_append f [] ys = refl
   every_append f (x ∷ xs) ys = rw (every_append f xs ys) (sym (and_assoc (f x) (every f xs) (every f ys)))
 
@@ -85,31 +80,22 @@ module _ {A B : Type 0} where
   map_back f g (x ∷ xs) h = ap₂ {C = List A} (λ y ys. y ∷ ys) h.0 (map_back f g xs h.1)
 
 pub joined_append : (ps qs : List (List ℕ)) → joined (ps ++ qs) ≡ joined ps ++ joined qs
-unfolding joined
 joined_append [] qs = refl
 joined_append (p ∷ ps) qs = ap (λ (l : List ℕ). p ++ l) (joined_append ps qs) ∙ sym (append_assoc p (joined ps) (joined qs))
 
 -- parts of one length
 pub length-joined : (w : ℕ) (ps : List (List ℕ)) → All (λ (p : List ℕ). length p ≡ w) ps → length (joined ps) ≡ length ps * w
-unfolding joined
 length-joined w [] h = sym (zero-mul w)
 length-joined w (p ∷ ps) h = rw (length-append, h.0, length-joined w ps h.1, suc-mul) (add_comm w (length ps * w))
 
 -- parts of at most one length
 pub length-joined-le : (w : ℕ) (ps : List (List ℕ)) → All (λ (p : List ℕ). length p ≤ w) ps → length (joined ps) ≤ length ps * w
-unfolding joined
 length-joined-le w [] h = omega arith
 length-joined-le w (p ∷ ps) h = omega (arith, length-append p (joined ps), h.0, length-joined-le w ps h.1, suc-mul (length ps) w)
 
 -- no part is longer than all together
 pub all_joined : (ps : List (List ℕ)) → All (λ (p : List ℕ). length p ≤ length (joined ps)) ps
-unfolding joined
 all_joined [] = tt
 all_joined (p ∷ ps) =
     let e : length (p ++ joined ps) ≡ length p + length (joined ps) = length-append p (joined ps) in
     (omega arith, all_imp ps (λ q h. omega arith) (all_joined ps))
-
-pub bytes-joined : (ps : List (List ℕ)) → All Bytes ps → Bytes (joined ps)
-unfolding joined
-bytes-joined [] h = λ i. omega arith
-bytes-joined (p ∷ ps) h = bytes_append p (joined ps) h.0 (bytes-joined ps h.1)

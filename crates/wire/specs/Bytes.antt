@@ -1,5 +1,7 @@
 -- Bytes, little-endian numbers, and a buffer that is written in part.
-use Rattle.std.specs.Prelude.{ℕ, zero, suc, ◌+◌, ◌*◌, ◌/◌, ◌%◌, ◌<◌, List, [], ◌∷◌, ◌++◌, Bool, true, false, ◌&&◌, eqb, get_or, set, take, drop}
+use Rattle.std.specs.Prelude.{ℕ, zero, suc, ◌+◌, ◌*◌, ◌/◌, ◌%◌, ◌<◌, List, [], ◌∷◌, Bool, nat_eq, get_or, set, take, drop}
+use Rattle.std.specs.List.{concat, list_all}
+use Rattle.std.specs.Cmp.Lexicographic.{pointwise}
 
 -- every element is a byte (what a slice of bytes holds; past the end get_or gives 0)
 abbrev pub Bytes : List ℕ → Type 0
@@ -25,14 +27,12 @@ put l at [] = l
 put l at (b ∷ bs) = put (set l at b) (suc at) bs
 
 -- lists one after the other
-unfoldable pub joined : List (List ℕ) → List ℕ
-joined [] = []
-joined (p ∷ ps) = p ++ joined ps
+abbrev pub joined : List (List ℕ) → List ℕ
+joined ps = concat ps
 
 -- the test f passes at every element
-unfoldable pub every : {A : Type 0} → (A → Bool) → List A → Bool
-every f [] = true
-every f (x ∷ xs) = f x && every f xs
+abbrev pub every : {A : Type 0} → (A → Bool) → List A → Bool
+every f xs = list_all f xs
 
 -- P holds of every element
 abbrev pub All : {A : Type 0} → (A → Type 0) → List A → Type 0
@@ -40,8 +40,5 @@ All P [] = Unit {0}
 All P (x ∷ xs) = P x × All P xs
 
 -- the same bytes, one by one
-unfoldable pub are_same_bytes : List ℕ → List ℕ → Bool
-are_same_bytes [] [] = true
-are_same_bytes [] (y ∷ ys) = false
-are_same_bytes (x ∷ xs) [] = false
-are_same_bytes (x ∷ xs) (y ∷ ys) = eqb x y && are_same_bytes xs ys
+abbrev pub are_same_bytes : List ℕ → List ℕ → Bool
+are_same_bytes xs ys = pointwise nat_eq xs ys

@@ -1,12 +1,13 @@
 -- A loop that writes numbers of one width, one after the other: what is still to be written completes the list.
 -- Assumes nothing.
 use Prim.Native.Nat.{ℕ, ◌+◌, ◌≤◌, ◌<◌}
-use mathlib.Core.Path.{◌≡◌, ◌∙◌}
+use mathlib.Core.Path.{◌≡◌, sym, ◌∙◌}
 use mathlib.Core.List.{List, ◌∷◌, map}
 use native.Mathlib.Numerals.{add-one}
-use lib.Seq.{drop-cons, get_or-take, length-take-le}
-use lib.ListN.{length, get_or, take, drop, length-map, drop_of_length-le, get_or-map}
-use Rattle.wire.specs.Bytes.{le, put, joined}
+use lib.Seq.{drop-cons, length-take-le}
+use lib.ListN.{length, get_or, take, drop, length-map, drop_of_length-le}
+use Rattle.std.proofs.lemmas.List.{take-map}
+use Rattle.wire.specs.Bytes.{le, put}
 use Rattle.framing.proofs.Laws.{put-field}
 use Rattle.writer.specs.Columns.{number_bytes}
 
@@ -18,13 +19,13 @@ module _ {w : ℕ} {ns before : List ℕ} {at : ℕ} {out : List ℕ} {next i : 
   pub one_more :
       (d x after : ℕ) → next + w ≡ after → i < length ns → x ≡ get_or ns i d → Putting w ns before at out next i
       → Putting w ns before at (put out next (le w x)) after (i + 1)
-  unfolding number_bytes joined
+  unfolding number_bytes
   one_more d x after e h is v =
       let there : drop i ns ≡ get_or ns i d ∷ drop (i + 1) ns = rw add-one (drop-cons ns i d h) in
       record { rest = rw (← e, is) (put-field out next w (get_or ns i d) _ ∙ rw there at v.rest) }
 
   pub all_of_it : length ns ≤ i → Putting w ns before at out next i → out ≡ put before at (number_bytes w ns)
-  unfolding number_bytes joined put
+  unfolding number_bytes put
   all_of_it h v = rw (drop_of_length-le ns {i = i} h) at v.rest
 
 -- the entries of an array that count, as they are told
@@ -32,5 +33,5 @@ module _ {A B : Type 0} (f : A → B) (xs : List A) (n : ℕ) where
   pub length_live : n ≤ length xs → length (take n (map f xs)) ≡ n
   length_live l = length-take-le n (map f xs) (rw length-map l)
 
-  pub live_at : (i : ℕ) (d : A) → i < n → get_or (take n (map f xs)) i (f d) ≡ f (get_or xs i d)
-  live_at i d h = get_or-take n (map f xs) i (f d) h ∙ get_or-map f xs i d
+  pub map_live : map f (take n xs) ≡ take n (map f xs)
+  map_live = sym (take-map f n xs)

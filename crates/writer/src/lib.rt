@@ -4,3 +4,12 @@
 
 pub mod dkg;
 pub mod results;
+
+use layout::Ids;
+
+// The ids of a packet that has none of its own.
+pub const NO_IDS: Ids = Ids {
+    dkg_id: 0,
+    sign_id: 0,
+    sign_iter_id: 0,
+};

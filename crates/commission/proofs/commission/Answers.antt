@@ -1,6 +1,5 @@
 -- `commission`: refused by 1, 2 or 3, or commissioned.
 -- Assumes nothing.
-use borrow.Author.Rules.{rules}
 use mathlib.Core.Path.{◌≡◌, sym, ap, ◌∙◌}
 use mathlib.Core.Bool.{true, false}
 use Rattle.state.specs.declared.answers.Answer.{Answer}
@@ -11,31 +10,29 @@ use Rattle.configuration.proofs.Given.{signers_11}
 use Rattle.configuration.proofs.Asked.{accepted}
 use Rattle.commission.specs.Commission.{fresh_with, fresh_of, uncommissioned_struct}
 use Rattle.commission.proofs.Turns.{refused-commission, done-commission}
-use native.Mathlib.Omega.{arith}
-use Rattle.std.proofs.lemmas.Grind.{common_steps}
 use Rattle.commission.proofs.commission.Goals as goal
 
 abbrev done : Answer → Coordinator → Done
 done a s = record { answer = a; after = s }
 
-pub config_of-config-requires : goal.config_of-config-requires
-config_of-config-requires c =
-    accepted c.args.g (signers_11 c.args.g _ c.well_formed.0) (sym c.questions-passed.ensures ∙ c.in-Yes.is)
+pub config_of-requires : goal.config_of-requires
+config_of-requires c =
+    accepted c.args.g (signers_11 c.args.g _ c.well_formed.0) (sym c.questions-passed.ensures ∙ c.in-Ok.is)
 
-pub returns-in-No : goal.returns-in-No
+pub returns-in-Err : goal.returns-in-Err
 unfolding uncommissioned_struct
-returns-in-No c =
+returns-in-Err c =
     let a = c.args in
-    let blank : c.fresh-s.result ≡ uncommissioned_struct = c.fresh-s.ensures ∙ ap (fresh_with false) c.blank_config-blank.ensures in
-    refused-commission a.g a.store.now (sym c.questions-passed.ensures ∙ c.in-No.is)
+    let blank : c.fresh.result ≡ uncommissioned_struct = c.fresh.ensures ∙ ap (fresh_with false) c.blank_config.ensures in
+    refused-commission a.g a.store.now (sym c.questions-passed.ensures ∙ c.in-Err.is)
     (c.refused.ensures ∙ ap (done _) blank)
 
-pub returns-in-Yes : goal.returns-in-Yes
+pub returns-in-Ok : goal.returns-in-Ok
 unfolding fresh_of
-returns-in-Yes c =
+returns-in-Ok c =
     let a = c.args in
-    let made : c.fresh-s-in-Yes.result ≡ fresh_of a.g =
-    c.fresh-s-in-Yes.ensures ∙ ap (fresh_with true) c.config_of-config.ensures in
+    let made : c.fresh-in-Ok.result ≡ fresh_of a.g =
+    c.fresh-in-Ok.ensures ∙ ap (fresh_with true) c.config_of.ensures in
     done-commission a.g a.store.now
-    (sym c.questions-passed.ensures ∙ c.in-Yes.is)
+    (sym c.questions-passed.ensures ∙ c.in-Ok.is)
     (c.quiet.ensures ∙ ap (done plain_answer) made) c.zero.ensures

@@ -1,11 +1,8 @@
 -- Each field is read where the layout has it; a field of one byte is that byte.
 -- Assumes nothing.
-use borrow.Author.Rules.{rules}
 use mathlib.Core.Path.{◌∙◌, sym}
 use Rattle.wire.proofs.Numbers.{number_one}
 use Rattle.layout.specs.LaidOut.{header_in}
-use native.Mathlib.Omega.{arith}
-use Rattle.std.proofs.lemmas.Grind.{common_steps}
 use Rattle.frame.proofs.header.Goals as goal
 
 pub returns : goal.returns

@@ -1,9 +1,5 @@
 -- `put_header`: the seven fields, one after the other.
 -- Assumes nothing.
-use borrow.Author.Rules.{rules}
-use mathlib.Core.Path.{ap, ◌∙◌}
-use lib.ListN.{length}
-use Rattle.wire.proofs.Buffer.{length-put}
 use Rattle.layout.specs.Encode.{header_bytes}
 use Rattle.framing.proofs.Laws.{put-field}
 use Rattle.framing.proofs.put_header.Goals as goal

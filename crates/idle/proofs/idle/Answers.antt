@@ -19,10 +19,10 @@ pub returns-then-h-ne5 : goal.returns-then-h-ne5
 returns-then-h-ne5 c store =
     unheard-did _ _ _ _ c.requires.header store c.if-h-eq1.false c.if-h-ne5.true c.quiet.ensures
 
-pub returns-then-got-last : goal.returns-then-got-last
-returns-then-got-last c store =
-    begin-15-did _ _ _ _ c.requires.header store c.if-h-ne5.false c.if-got-last.true c.refused.ensures
+pub returns-then-h-s : goal.returns-then-h-s
+returns-then-h-s c store =
+    begin-15-did _ _ _ _ c.requires.header store c.if-h-ne5.false c.if-h-s.true c.refused.ensures
 
 pub returns : goal.returns
 returns c store =
-    begin-did _ _ _ _ c.requires.header store c.if-h-ne5.false c.if-got-last.false c.quiet-2.ensures
+    begin-did _ _ _ _ c.requires.header store c.if-h-ne5.false c.if-h-s.false c.quiet-2.ensures

@@ -7,16 +7,16 @@ use native.Mathlib.Omega.{arith}
 use Rattle.std.proofs.lemmas.Grind.{common_steps}
 use Rattle.idle.proofs.nonce_request.Goals as goal
 
-pub returns-then-got-last : goal.returns-then-got-last
-returns-then-got-last c store =
-    current-did _ _ _ _ c.requires.0.header store c.if-got-last.true c.quiet.ensures
+pub returns-then-h-s : goal.returns-then-h-s
+returns-then-h-s c store =
+    current-did _ _ _ _ c.requires.0.header store c.if-h-s.true c.quiet.ensures
 
 pub begin-requires : goal.begin-requires
 begin-requires c =
-    (rw c.message-message.ensures.0 (c.requires.0.short c.requires.1), c.requires.0.wide)
+    (rw c.message.ensures.0 (c.requires.0.short c.requires.1), c.requires.0.wide)
 
 pub returns : goal.returns
 returns c store =
-    another-did _ _ _ _ c.requires.0.header store _ _ _ _ c.if-got-last.false c.message-message.ensures.0
-    (rw (c.root_of-root.ensures, c.signature_type-signature_type.ensures, c.requires.0.header))
+    another-did _ _ _ _ c.requires.0.header store _ _ _ _ c.if-h-s.false c.message.ensures.0
+    (rw (c.root_of.ensures, c.signature_type.ensures, c.requires.0.header))
     c.with_iteration-t.ensures (c.begin.ensures store)

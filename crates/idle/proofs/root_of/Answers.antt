@@ -7,4 +7,4 @@ use Rattle.std.proofs.lemmas.Grind.{common_steps}
 use Rattle.idle.proofs.root_of.Goals as goal
 
 pub returns : goal.returns
-returns c = c.copy.ensures ∙ rw c.root-part.ensures.0
+returns c = c.copy.ensures ∙ rw c.root.ensures.0

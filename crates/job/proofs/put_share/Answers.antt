@@ -1,14 +1,11 @@
 -- `put_share`: id and z_i, then the key ids.
 -- Assumes nothing.
-use borrow.Author.Rules.{rules}
 use Prim.Native.Nat.{◌+◌}
 use mathlib.Core.Path.{◌≡◌}
 use native.Mathlib.Omega.{arith}
 use lib.ListN.{length, take, drop, length-drop}
 use lib.Seq.{length-take-le}
 use Rattle.wire.proofs.Buffer.{put_next}
-use mathlib.Core.Path.{sym, ◌∙◌}
-use Rattle.std.proofs.lemmas.Grind.{common_steps}
 use Rattle.job.proofs.put_share.Goals as goal
 
 pub returns : goal.returns
@@ -17,9 +14,4 @@ returns c =
     let source = a.source.now in
     let size : length (take 36 (drop a.share_at source)) ≡ 36 =
     length-take-le 36 (drop a.share_at source) (rw length-drop (omega arith)) in
-    rw (
-      c.copy-2.ensures,
-      c.copy.ensures,
-      c.part-head.ensures,
-      c.part-keys.ensures,
-    ) (put_next _ _ _ (a.at + 36) _ (omega arith))
+    rw (c.copy-2.ensures, c.copy.ensures, c.part.ensures, c.part-2.ensures) (put_next _ _ _ (a.at + 36) _ (omega arith))

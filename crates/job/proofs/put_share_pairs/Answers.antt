@@ -1,69 +1,41 @@
 -- `put_share_pairs`: what is still to be written completes the signer's pairs.
 -- Assumes nothing.
-use Prim.Native.Nat.{◌+◌, ◌-◌, ◌*◌, ◌≤◌, ◌<◌}
-use mathlib.Core.Path.{◌≡◌, refl, ap, ◌∙◌}
-use mathlib.Core.List.{map}
 use native.Mathlib.Omega.{arith}
-use lib.Seq.{length-take-le}
-use lib.ListN.{length, get_or, take, drop, length-map}
+use lib.ListN.{length-map, drop_of_length-le}
 use Rattle.wire.specs.Bytes.{put}
-use Rattle.wire.proofs.Buffer.{length-put}
 use Rattle.framing.specs.Writing.{pairs, total}
 use Rattle.framing.proofs.Laws.{put_pair_next}
-use Rattle.pieces.proofs.Given.{map-live}
-use Rattle.job.specs.Job.{key_counts, share_length, share_lengths}
-use Rattle.job.proofs.Held.{counts_16, counts-bytes, live_none}
-use mathlib.Core.Path.{sym}
-use borrow.Author.Rules.{rules}
-use Rattle.std.proofs.lemmas.Grind.{common_steps}
+use Rattle.pieces.proofs.Given.{drop_next}
+use Rattle.job.specs.Job.{share_lengths}
+use Rattle.job.proofs.Held.{job_held, shares-short}
 use Rattle.job.proofs.put_share_pairs.Goals as goal
 
-pub loop-i-init : goal.loop-i-init
-loop-i-init c = (omega arith, omega arith, omega arith, refl, refl)
+pub put-next-requires : goal.put-next-requires
+unfolding total share_lengths
+put-next-requires c =
+    let l = c.loop-n in
+    let counts = c.counts-n-items in
+    let rest = drop_next counts.result.now l.n-index 0 c.loop-n-test.true in
+    let short = rw (← counts.ensures.0) at (shares-short _ _ (job_held _ c.args.p.now c.requires.2.1)) in
+    let left = rw rest at l.invariant.1 in
+    (omega arith, omega arith, omega arith)
 
-pub overflow_mul-len : goal.overflow_mul-len
-overflow_mul-len c =
-    let byte : get_or c.args.p.share_key_counts c.loop-i.i 0 < 256 =
-    counts-bytes c.args.p _ c.well_formed.1.1.0 c.loop-i.i in
-    omega (arith, byte)
-
-pub overflow_add-len : goal.overflow_add-len
-overflow_add-len c =
-    let byte : get_or c.args.p.share_key_counts c.loop-i.i 0 < 256 =
-    counts-bytes c.args.p _ c.well_formed.1.1.0 c.loop-i.i in
-    omega (arith, byte)
-
-pub overflow_add-at : goal.overflow_add-at
-overflow_add-at c =
-    let byte : get_or c.args.p.share_key_counts c.loop-i.i 0 < 256 =
-    counts-bytes c.args.p _ c.well_formed.1.1.0 c.loop-i.i in
-    omega (arith, byte)
-
-pub loop-i-preserved : goal.loop-i-preserved
+pub loop-n-preserved : goal.loop-n-preserved
 unfolding total
-loop-i-preserved c =
-    let byte : get_or c.args.p.share_key_counts c.loop-i.i 0 < 256 =
-    counts-bytes c.args.p _ c.well_formed.1.1.0 c.loop-i.i in
-    let p = c.args.p in
-    let l = c.loop-i in
-    let sixteen : length p.share_key_counts ≡ 16 = counts_16 p _ c.well_formed.1.1.0 in
-    let next = map-live share_length p.share_key_counts p.shares.count l.i 0 _ c.loop-i-test.true
-    (omega arith) refl in (
-      omega arith,
-      omega arith,
-      omega (arith, byte),
-      omega (arith, rw next at l.invariant.3),
-      rw (c.put_pair.ensures, put_pair_next) (rw next at l.invariant.4),
+loop-n-preserved c =
+    let l = c.loop-n in
+    let put = c.put-next.ensures in
+    let rest = drop_next c.counts-n-items.result.now l.n-index 0 c.loop-n-test.true in (
+      omega (arith, put.0, rw rest at l.invariant.0),
+      omega (arith, put.1, rw rest at l.invariant.1),
+      rw (put.0, put.1, put.2, put_pair_next) (rw rest at l.invariant.2),
     )
 
 -- nothing is left to write after the loop
 pub returns : goal.returns
-unfolding total pairs put key_counts share_lengths
+unfolding total pairs put share_lengths
 returns c =
-    let p = c.args.p in
-    let l = c.loop-i in
-    let sixteen : length p.share_key_counts ≡ 16 = counts_16 p _ c.well_formed.1.1.0 in
-    let size : length (take p.shares.count p.share_key_counts) ≡ p.shares.count =
-    length-take-le p.shares.count p.share_key_counts (omega arith) in
-    let none = live_none p.share_key_counts p.shares.count l.i c.loop-i-test.false in
-    (rw length-map (omega arith), omega (arith, rw none at l.invariant.3), rw none at l.invariant.4)
+    let l = c.loop-n in
+    let none = drop_of_length-le c.counts-n-items.result.now {i = l.n-index} c.loop-n-test.false in
+    rw (← c.counts-n-items.ensures.0, length-map)
+    (omega (arith, rw none at l.invariant.0), omega (arith, rw none at l.invariant.1), rw none at l.invariant.2)

@@ -1,25 +1,16 @@
 -- `put_share_pairs`: what is still to be written completes the signer's pairs.
 -- Assumes nothing.
-use Prim.Native.Nat.{◌+◌, ◌-◌, ◌*◌, ◌≤◌, ◌<◌}
-use mathlib.Core.Path.{◌≡◌, refl, ap, ◌∙◌}
+use Prim.Native.Nat.{◌+◌, ◌*◌}
+use mathlib.Core.Path.{◌≡◌}
 use mathlib.Core.List.{map}
-use native.Mathlib.Omega.{arith}
-use lib.Seq.{length-take-le}
-use lib.ListN.{length, get_or, take, drop, length-map}
+use lib.ListN.{length, drop}
 use Rattle.wire.specs.Bytes.{put}
-use Rattle.wire.proofs.Buffer.{length-put}
 use Rattle.framing.specs.Writing.{pairs, total}
-use Rattle.framing.proofs.Laws.{put_pair_next}
-use Rattle.pieces.proofs.Given.{map-live}
-use Rattle.job.specs.Job.{key_counts, share_length, share_lengths}
-use Rattle.job.proofs.Held.{counts_16, counts-bytes, live_none}
+use Rattle.job.specs.Job.{share_length}
 use Rattle.job.proofs.put_share_pairs.Given as goal
 
-abbrev pub invariant-loop-i : goal.invariant-loop-i
-invariant-loop-i l = (l.i ≤ l.count) × (l.pair ≡ l.initial.pair + 8 * l.i) × (l.at ≤ l.initial.at + 1056 * l.i)
-    × (l.at + total (map share_length (drop l.i (take l.count l.counts))) ≡ l.initial.at + total (map share_length (take l.count l.counts)))
-    × (put l.out l.pair (pairs l.at (map share_length (drop l.i (take l.count l.counts))))
-    ≡ put l.initial.out l.initial.pair (pairs l.initial.at (map share_length (take l.count l.counts))))
-
-abbrev pub decreases-loop-i : goal.decreases-loop-i
-decreases-loop-i l = l.count - l.i
+abbrev pub invariant-loop-n : goal.invariant-loop-n
+invariant-loop-n l = (l.next.pair + 8 * length (drop l.n-index l.n-items) ≡ l.initial.next.pair + 8 * length l.n-items)
+    × (l.next.at + total (map share_length (drop l.n-index l.n-items)) ≡ l.initial.next.at + total (map share_length l.n-items))
+    × (put l.out l.next.pair (pairs l.next.at (map share_length (drop l.n-index l.n-items)))
+    ≡ put l.initial.out l.initial.next.pair (pairs l.initial.next.at (map share_length l.n-items)))

@@ -18,4 +18,4 @@ pub returns-in-Nonces : goal.returns-in-Nonces
 returns-in-Nonces c = search (rules, on_time_did, nonces_late_did, shares-late-did)
 
 pub returns-in-Shares : goal.returns-in-Shares
-returns-in-Shares c = shares-late-did _ _ _ _ _ _ c.timeout_due-due.ensures _ c.in-Shares.is c.share_timeout.ensures
+returns-in-Shares c = shares-late-did _ _ _ _ _ _ c.timeout_due.ensures _ c.in-Shares.is c.share_timeout.ensures

@@ -1,13 +1,9 @@
 -- The second part is a response's key ids.
 -- Assumes nothing.
-use borrow.Author.Rules.{rules}
 use mathlib.Core.Path.{◌∙◌, ap}
 use Rattle.layout.specs.Messages.{NonceResponse, nonce_response}
 use Rattle.layout.specs.Decode.{response_in, ids_in}
 use Rattle.parts.proofs.Taken.{says}
-use mathlib.Core.Path.{sym}
-use native.Mathlib.Omega.{arith}
-use Rattle.std.proofs.lemmas.Grind.{common_steps}
 use Rattle.parts.proofs.key_ids.Goals as goal
 
 pub returns : goal.returns

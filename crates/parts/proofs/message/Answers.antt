@@ -1,13 +1,9 @@
 -- The first part is the message of each kind that has one.
 -- Assumes nothing.
-use borrow.Author.Rules.{rules}
 use mathlib.Core.Path.{◌∙◌, ap}
 use Rattle.layout.specs.Messages.{NonceRequest, NonceResponse, SignatureShareRequest, nonce_request, nonce_response, signature_share_request}
 use Rattle.layout.specs.Decode.{request_in, response_in, share_request_in}
 use Rattle.parts.proofs.Taken.{says}
-use mathlib.Core.Path.{sym}
-use native.Mathlib.Omega.{arith}
-use Rattle.std.proofs.lemmas.Grind.{common_steps}
 use Rattle.parts.proofs.message.Goals as goal
 
 pub returns : goal.returns

@@ -1,13 +1,10 @@
 -- The parts after message and root are the responses, taken one by one.
 -- Assumes nothing.
-use borrow.Author.Rules.{rules}
 use Prim.Native.Nat.{◌+◌, ◌*◌}
 use mathlib.Core.Path.{◌≡◌}
 use native.Mathlib.Omega.{arith}
 use Rattle.layout.specs.LaidOut.{part_at}
 use Rattle.parts.proofs.Taken.{nested_says}
-use mathlib.Core.Path.{sym, ◌∙◌}
-use Rattle.std.proofs.lemmas.Grind.{common_steps}
 use Rattle.parts.proofs.nested.Goals as goal
 
 pub returns : goal.returns

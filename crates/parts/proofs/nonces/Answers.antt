@@ -1,13 +1,9 @@
 -- The third part is a response's nonces.
 -- Assumes nothing.
-use borrow.Author.Rules.{rules}
 use mathlib.Core.Path.{◌∙◌, ap}
 use Rattle.layout.specs.Messages.{NonceResponse, nonce_response}
 use Rattle.layout.specs.Decode.{response_in, nonces_in}
 use Rattle.parts.proofs.Taken.{says}
-use mathlib.Core.Path.{sym}
-use native.Mathlib.Omega.{arith}
-use Rattle.std.proofs.lemmas.Grind.{common_steps}
 use Rattle.parts.proofs.nonces.Goals as goal
 
 pub returns : goal.returns

@@ -1,11 +1,8 @@
 -- Part i where there is one.
 -- Assumes nothing.
 use borrow.Author.Rules.{rules}
-use borrow.Author.Tests.{lt-ltb, le-ltb}
+use borrow.Author.Tests.{lt-ltb}
 use Rattle.parts.specs.Parts.{part_in}
-use mathlib.Core.Path.{sym, ◌∙◌}
-use native.Mathlib.Omega.{arith}
-use Rattle.std.proofs.lemmas.Grind.{common_steps}
 use Rattle.parts.proofs.part.Goals as goal
 
 pub returns-then-i-pairs : goal.returns-then-i-pairs

@@ -1,12 +1,9 @@
 -- What stands after id and z_i, to the end.
 -- Assumes nothing.
-use borrow.Author.Rules.{rules}
 use mathlib.Core.Path.{◌∙◌}
 use native.Mathlib.Omega.{arith}
 use lib.ListN.{length, drop, length-drop}
 use lib.Seq.{take_all}
-use mathlib.Core.Path.{sym}
-use Rattle.std.proofs.lemmas.Grind.{common_steps}
 use Rattle.parts.proofs.share_key_ids.Goals as goal
 
 pub returns : goal.returns

@@ -1,4 +1,3 @@
-use borrow.Author.Rules.{rules}
 use mathlib.Core.Path.{◌≡◌, ap, ◌∙◌}
 use lib.ListN.{length, get_or}
 use Rattle.pieces.specs.Places.{places_of}
@@ -6,9 +5,6 @@ use Rattle.state.specs.Slots.{collect}
 use Rattle.state.specs.View.{slots_of, no_row}
 use Rattle.signers.specs.Order.{place_in}
 use Rattle.share_request.proofs.Writes.{writes}
-use mathlib.Core.Path.{sym}
-use native.Mathlib.Omega.{arith}
-use Rattle.std.proofs.lemmas.Grind.{common_steps}
 use Rattle.share_request.proofs.write_share_request.Goals as goal
 
 -- src/lib.rt:13:1

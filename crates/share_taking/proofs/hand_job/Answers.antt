@@ -11,25 +11,23 @@ use mathlib.Core.Path.{sym, ◌∙◌}
 use Rattle.std.proofs.lemmas.Grind.{common_steps}
 use Rattle.share_taking.proofs.hand_job.Goals as goal
 
-pub slice_bounds-bytes-end : goal.slice_bounds-bytes-end
-slice_bounds-bytes-end c =
+pub slice_bounds-message-end : goal.slice_bounds-message-end
+slice_bounds-message-end c =
     omega (arith, coordinator-bytes c.args.s _ c.well_formed.0, message_short _ c.requires.within)
-
-pub slice_bounds-write_signing_job-end : goal.slice_bounds-write_signing_job-end
-slice_bounds-write_signing_job-end c =
-    rw length-take
-    (omega (arith, coordinator-bytes c.args.s _ c.well_formed.0, message_short _ c.requires.within))
 
 pub write_signing_job-given-requires : goal.write_signing_job-given-requires
 write_signing_job-given-requires c =
     ready _ _ _ _ _ c.requires.within c.requires.known c.requires.stored
     (rw length-take (omega (arith, message_short _ c.requires.within))) c.requires.wide
 
-pub returns-in-Bytes : goal.returns-in-Bytes
-returns-in-Bytes c id =
+pub returns-in-Ok : goal.returns-in-Ok
+returns-in-Ok c id =
     let job = c.write_signing_job-given.ensures in
-    job_did _ id _ _ _ _ job.1 c.handing.ensures job.0 c.in-Bytes.is
+    job_did _ id _ _ _ _ job.1 c.handing.ensures job.0 c.in-Ok.is
 
-pub returns-in-Refused : goal.returns-in-Refused
-returns-in-Refused c id =
-    absurd (never_refused c.write_signing_job-given.ensures.0 c.in-Refused.is)
+pub returns-in-Err : goal.returns-in-Err
+returns-in-Err c id =
+    absurd (never_refused c.write_signing_job-given.ensures.0 c.in-Err.is)
+
+pub shared_ref_as_front-message : goal.shared_ref_as_front-message
+shared_ref_as_front-message c = omega (arith, message_short _ c.requires.within)

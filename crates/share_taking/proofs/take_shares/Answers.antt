@@ -10,29 +10,29 @@ use mathlib.Core.Path.{sym, ◌∙◌}
 use Rattle.std.proofs.lemmas.Grind.{common_steps}
 use Rattle.share_taking.proofs.take_shares.Goals as goal
 
-pub offset_bounds-held-i : goal.offset_bounds-held-i
-offset_bounds-held-i c =
+pub offset_bounds-s-i : goal.offset_bounds-s-i
+offset_bounds-s-i c =
     omega (arith, slot_low _ _ _ c.requires.found, config_few _ (within _ c.requires.within))
 
-pub bounds-held-i : goal.bounds-held-i
-bounds-held-i c =
+pub bounds-s-i : goal.bounds-s-i
+bounds-s-i c =
     omega (arith, slot_low _ _ _ c.requires.found, config_few _ (within _ c.requires.within))
 
-pub returns-then-slot : goal.returns-then-slot
-returns-then-slot c = held_did _ _ _ _ _ _ _ c.if-slot.true c.quiet.ensures
+pub returns-then-s-i : goal.returns-then-s-i
+returns-then-s-i c = held_did _ _ _ _ _ _ _ c.if-s-i.true c.quiet.ensures
 
-pub keep-kept-requires : goal.keep-kept-requires
-keep-kept-requires c = (
+pub keep-shares-requires : goal.keep-shares-requires
+keep-shares-requires c = (
   c.requires.shares,
   omega (arith, slot_low _ _ _ c.requires.found, config_few _ (within _ c.requires.within)),
 )
 
-pub offset_bounds-records-r : goal.offset_bounds-records-r
-offset_bounds-records-r c =
+pub offset_bounds-s-r : goal.offset_bounds-s-r
+offset_bounds-s-r c =
     omega (arith, c.requires.known, records_few _ (within _ c.requires.within))
 
-pub bounds-records-r : goal.bounds-records-r
-bounds-records-r c =
+pub bounds-s-r : goal.bounds-s-r
+bounds-s-r c =
     omega (arith, c.requires.known, records_few _ (within _ c.requires.within))
 
 pub anyone_waits-requires : goal.anyone_waits-requires
@@ -41,16 +41,16 @@ anyone_waits-requires c =
 
 pub returns-then-anyone_waits : goal.returns-then-anyone_waits
 returns-then-anyone_waits c =
-    others_did _ _ _ _ _ _ _ c.if-slot.false _ (c.anyone_waits.ensures _ _) _ _
-    c.if-anyone_waits.true (rw c.keep-kept.ensures.value) c.keep-kept.ensures.store_after c.quiet-then-anyone_waits.ensures
+    others_did _ _ _ _ _ _ _ c.if-s-i.false _ (c.anyone_waits.ensures _ _) _ _
+    c.if-anyone_waits.true (rw c.keep-shares.ensures.value) c.keep-shares.ensures.store_after c.quiet-then-anyone_waits.ensures
 
 pub hand_job-requires : goal.hand_job-requires
 hand_job-requires c =
-    rw (c.keep-kept.ensures.value, c.keep-kept.ensures.store_after)
-    (taken c.args.signature_type _ _ _ _ _ _ (shape _ _ c.well_formed.0) c.if-slot.false c.requires)
+    rw (c.keep-shares.ensures.value, c.keep-shares.ensures.store_after)
+    (taken c.args.signature_type _ _ _ _ _ _ (shape _ _ c.well_formed.0) c.if-s-i.false c.requires)
 
 pub returns : goal.returns
 returns c =
-    last_did _ _ _ _ _ _ _ c.if-slot.false _ (c.anyone_waits.ensures _ _) _ _ _
-    c.if-anyone_waits.false (rw c.keep-kept.ensures.value) c.keep-kept.ensures.store_after
+    last_did _ _ _ _ _ _ _ c.if-s-i.false _ (c.anyone_waits.ensures _ _) _ _ _
+    c.if-anyone_waits.false (rw c.keep-shares.ensures.value) c.keep-shares.ensures.store_after
     (c.hand_job.ensures _)

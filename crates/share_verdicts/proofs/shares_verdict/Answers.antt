@@ -13,41 +13,41 @@ use borrow.Author.Rules.{rules}
 use Rattle.std.proofs.lemmas.Grind.{common_steps}
 use Rattle.share_verdicts.proofs.shares_verdict.Goals as goal
 
-pub returns-then-not-marks-i : goal.returns-then-not-marks-i
+pub returns-then-not-s-i : goal.returns-then-not-s-i
 unfolding shares_verdict
-returns-then-not-marks-i c =
-    rw (not-true (get_or c.args.s.marks.ended c.args.i false) c.if-not-marks-i.true-raw)
+returns-then-not-s-i c =
+    rw (not-true (get_or c.args.s.now.marks.ended c.args.i false) c.if-not-s-i.true-raw)
 
 pub returns-then-not-entry : goal.returns-then-not-entry
 unfolding shares_verdict
 returns-then-not-entry c =
     rw (
-      not-false (get_or c.args.s.marks.ended c.args.i false) c.if-not-marks-i.false-raw,
-      not-true (get_or c.args.s.config.signers c.args.i no_entry).has_keys c.if-not-entry.true,
+      not-false (get_or c.args.s.now.marks.ended c.args.i false) c.if-not-s-i.false-raw,
+      c.if-not-entry.true,
     )
 
 pub share_keys-list-requires : goal.share_keys-list-requires
 share_keys-list-requires c =
     c.requires.0
 
-pub returns-then-not-found : goal.returns-then-not-found
+pub returns-then-not-compare : goal.returns-then-not-compare
 unfolding shares_verdict
-returns-then-not-found c =
+returns-then-not-compare c =
     rw (
-      not-false (get_or c.args.s.marks.ended c.args.i false) c.if-not-marks-i.false-raw,
-      not-false (get_or c.args.s.config.signers c.args.i no_entry).has_keys c.if-not-entry.false,
+      not-false (get_or c.args.s.now.marks.ended c.args.i false) c.if-not-s-i.false-raw,
+      c.if-not-entry.false,
       ← c.share_keys-list.ensures,
-      ← ap (λ (k : KeyComparison). k.same) c.compare-found.ensures,
-      not-true c.compare-found.result.same c.if-not-found.true,
+      ← ap (λ (k : KeyComparison). k.same) c.compare.ensures,
+      not-true c.compare.result.same c.if-not-compare.true,
     )
 
 pub returns : goal.returns
 unfolding shares_verdict
 returns c =
     rw (
-      not-false (get_or c.args.s.marks.ended c.args.i false) c.if-not-marks-i.false-raw,
-      not-false (get_or c.args.s.config.signers c.args.i no_entry).has_keys c.if-not-entry.false,
+      not-false (get_or c.args.s.now.marks.ended c.args.i false) c.if-not-s-i.false-raw,
+      c.if-not-entry.false,
       ← c.share_keys-list.ensures,
-      ← ap (λ (k : KeyComparison). k.same) c.compare-found.ensures,
-      not-false c.compare-found.result.same c.if-not-found.false,
+      ← ap (λ (k : KeyComparison). k.same) c.compare.ensures,
+      not-false c.compare.result.same c.if-not-compare.false,
     )

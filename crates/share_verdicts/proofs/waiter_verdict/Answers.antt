@@ -28,15 +28,15 @@ returns-then-got-current c =
       ne_eqb _ _ c.if-got-current.true,
     )
 
-pub returns-then-not-is_same_round : goal.returns-then-not-is_same_round
+pub returns-then-got-current-2 : goal.returns-then-got-current-2
 unfolding waiter_verdict share_response_in
-returns-then-not-is_same_round c =
+returns-then-got-current-2 c =
     rw (
       ← c.requires.0.header,
       ← c.is_awaited.ensures,
       c.if-not-is_awaited.false,
       eq-eqb _ _ c.if-got-current.false,
-      (sym c.is_same_round.ensures ∙ c.if-not-is_same_round.true),
+      ne_eqb _ _ c.if-got-current-2.true,
     )
 
 pub returns : goal.returns
@@ -47,6 +47,6 @@ returns c =
       ← c.is_awaited.ensures,
       c.if-not-is_awaited.false,
       eq-eqb _ _ c.if-got-current.false,
-      (sym c.is_same_round.ensures ∙ c.if-not-is_same_round.false),
+      eq-eqb _ _ c.if-got-current-2.false,
     )
     c.shares_verdict.ensures

@@ -1,34 +1,25 @@
--- `waiting`: the flags from the front, and what is left to flag.
+-- `waiting`: slot by slot.
 -- Assumes nothing.
-use Prim.Native.Nat.{◌≤◌, ◌-◌}
-use mathlib.Core.Path.{◌≡◌, refl, ◌∙◌}
-use mathlib.Core.List.{◌++◌, map}
+use mathlib.Core.Path.{◌≡◌, sym, ◌∙◌}
+use mathlib.Core.Bool.{false}
+use mathlib.Core.List.{map}
 use native.Mathlib.Omega.{arith}
-use lib.ListN.{length, take, drop, length-set}
+use borrow.Author.Rules.{rules}
+use lib.ListN.{length, get_or, length-map, get_or-map}
+use Rattle.std.proofs.Common.{of_calls}
+use Rattle.std.proofs.lemmas.List.{ext_get_or}
 use Rattle.state.specs.View.{no_slot}
 use Rattle.state.proofs.Given.{slots_10}
 use Rattle.signer_ids.specs.Flags.{is_waiting}
-use Rattle.signer_ids.proofs.Listing.{fill_next, fill_done}
-use mathlib.Core.Path.{sym}
-use borrow.Author.Rules.{rules}
-use Rattle.std.proofs.lemmas.Grind.{common_steps}
 use Rattle.signer_ids.proofs.waiting.Goals as goal
-
-pub loop-i-init : goal.loop-i-init
-loop-i-init c = let ten = slots_10 c.args.row _ c.well_formed.0 in (ten, omega arith, omega arith, refl)
-
-pub loop-i-preserved : goal.loop-i-preserved
-loop-i-preserved c =
-    let v = c.loop-i in
-    let slots = c.args.row.slots in (
-      v.invariant.0,
-      length-set v.flags v.i c.is_waiting.result ∙ v.invariant.1,
-      omega arith,
-      rw c.is_waiting.ensures (fill_next is_waiting slots v.flags v.i v.invariant.1 no_slot (omega arith) v.invariant.3),
-    )
 
 pub returns : goal.returns
 returns c =
-    let v = c.loop-i in
-    let a = c.args in
-    fill_done is_waiting a.row.slots v.flags v.i v.invariant.1 (omega arith) v.invariant.3
+    let slots = c.args.row.slots in
+    let ten : length slots ≡ 10 = slots_10 c.args.row _ c.well_formed.0 in
+    let made = c.map.ensures.items in
+    ext_get_or false c.map.result (map is_waiting slots) (simp length-map (omega (arith, made.long)))
+    (λ i low.
+    let k = made.at i no_slot false (omega (arith, made.long)) in
+    let one : get_or c.map.result i false ≡ is_waiting (get_or slots i no_slot) = search (rules, of_calls) in
+    one ∙ sym (get_or-map is_waiting slots i no_slot))

@@ -15,13 +15,6 @@ use mathlib.Core.Path.{sym}
 use Rattle.std.proofs.lemmas.Grind.{common_steps}
 use Rattle.signing_job.proofs.write_signing_job.Goals as goal
 
-pub ascending-walked-requires : goal.ascending-walked-requires
-ascending-walked-requires c = c.requires.signers
-
-pub job_places-ps-requires : goal.job_places-ps-requires
-job_places-ps-requires c =
-    (omega (arith, c.requires.row), c.ascending-walked.ensures.1)
-
 pub is_whole-mark-requires : goal.is_whole-mark-requires
 is_whole-mark-requires c =
     let a = c.args in

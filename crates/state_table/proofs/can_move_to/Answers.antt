@@ -5,8 +5,7 @@ use mathlib.Core.Path.{◌≡◌, sym, ◌∙◌, ap₂}
 use mathlib.Core.Bool.{true, false}
 use native.Mathlib.Omega.{arith}
 use borrow.Author.Tests.{not-true, not-false}
-use Rattle.state_table.specs.declared.StateType.{StateType}
-use Rattle.state_table.specs.States.{position, state_number, types_agree}
+use Rattle.state_table.specs.States.{position, state_number, types_agree, StateType}
 use Rattle.state_table.specs.Moves.{allowed}
 use Rattle.state_table.proofs.Table.{state_below, move-table}
 use Rattle.std.proofs.lemmas.Grind.{common_steps}

@@ -1,7 +1,6 @@
 -- 02, e), when each signer answered: the query of arrivals, a round for each clause. The query comes at a reading of its own, which nothing
 -- tells.
-use Rattle.std.specs.Prelude.{ℕ, ◌^◌, ◌-◌, true, false, List, [], ◌∷◌, ◌++◌, replicate}
-use Rattle.std.proofs.Math.Option.{some, none}
+use Rattle.std.specs.Prelude.{Some, None, ℕ, ◌^◌, ◌-◌, true, false, List, [], ◌∷◌, ◌++◌, replicate}
 use Rattle.layout.specs.Limits.{store_length, answer_length}
 use Rattle.layout.specs.declared.SignatureType.TheVariants.{Frost, Schnorr}
 use Rattle.layout.specs.Messages.{Arrival, nonce_response}
@@ -29,7 +28,7 @@ arrived arrivals = tells (written result (encode_arrivals arrivals)) []
 
 -- a round for message 9 begun at 100
 abbrev begun100 : List Call
-begun100 = ready ++ (starts 100 nine Frost [] none ∷ [])
+begun100 = ready ++ (starts 100 nine Frost [] None ∷ [])
 
 -- "responder ids ascending, and their readings, eight bytes each", written out: 72 bytes, no id and no signer in the header
 abbrev pub ascending : Round
@@ -107,11 +106,11 @@ after_eleven =
     (answers 101 (to five q2) ⇒ recorded_of 2
     ∷ answers 102 q0 ⇒ recorded_of 0
     ∷ answers 103 q1 ⇒ shares_asked 1 (shares9 (q0 ∷ q1 ∷ []))
-    ∷ starts 104 five Schnorr [] none ⇒ refuses 11
+    ∷ starts 104 five Schnorr [] None ⇒ refuses 11
     ∷ query ⇒ arrived (came 2 101 ∷ [])
-    ∷ starts 105 (1 ∷ []) Schnorr [] none ⇒ refuses 11
+    ∷ starts 105 (1 ∷ []) Schnorr [] None ⇒ refuses 11
     ∷ query ⇒ arrived []
-    ∷ starts 106 nine Schnorr [] none ⇒ refuses 11
+    ∷ starts 106 nine Schnorr [] None ⇒ refuses 11
     ∷ query ⇒ arrived (came 0 102 ∷ came 1 103 ∷ [])
     ∷ [])
     (left (ids_of 1 4 1) nine [])
@@ -132,7 +131,7 @@ retry_clears =
 abbrev pub start_clears : Round
 start_clears =
     round gathered
-    (starts 5 nine Frost [] none ⇒ nonces_asked (request (ids_of 1 2 2) nine Frost []) ∷ query ⇒ arrived [] ∷ [])
+    (starts 5 nine Frost [] None ⇒ nonces_asked (request (ids_of 1 2 2) nine Frost []) ∷ query ⇒ arrived [] ∷ [])
     (left (ids_of 1 2 2) nine [])
 
 -- too few keys after the timeout: the state stays, and the readings
@@ -189,7 +188,7 @@ five_before_seven =
     (left9 1)
 
 abbrev pub uncommissioned : Round
-uncommissioned = round [] (query ⇒ refuses 4 ∷ []) none
+uncommissioned = round [] (query ⇒ refuses 4 ∷ []) None
 
 -- no key is asked for
 abbrev pub keyless : Round

@@ -1,7 +1,6 @@
 -- "The questions, in order", those that belong to a call's own work (8 to 25): each with what comes before it, what it answers and what it
 -- leaves.
-use Rattle.std.specs.Prelude.{ℕ, ◌^◌, ◌-◌, Bool, true, false, List, [], ◌∷◌, ◌++◌, replicate}
-use Rattle.std.proofs.Math.Option.{some, none}
+use Rattle.std.specs.Prelude.{Some, None, ℕ, ◌^◌, ◌-◌, Bool, true, false, List, [], ◌∷◌, ◌++◌, replicate}
 use Rattle.layout.specs.Limits.{store_length, answer_length}
 use Rattle.layout.specs.declared.SignatureType.TheVariants.{Frost, Schnorr}
 use Rattle.layout.specs.Messages.{NonceResponse, Message, nonce_request, nonce_response, signature_share_request, dkg_begin, dkg_signer, dkg_coordinator}
@@ -55,11 +54,11 @@ bad_packet_unverified =
 abbrev pub long_messages : Round
 long_messages =
     round (ready ++ (group_cleared ∷ []))
-    (starts 0 (replicate 257 1) Frost [] none ⇒ refuses 9
-    ∷ starts 0 (replicate 256 1) Frost [] none ⇒ refuses 10
+    (starts 0 (replicate 257 1) Frost [] None ⇒ refuses 9
+    ∷ starts 0 (replicate 256 1) Frost [] None ⇒ refuses 10
     ∷ group_held ⇒ nothing_told
-    ∷ starts 0 (replicate 257 1) Frost [] none ⇒ refuses 9
-    ∷ starts 0 (replicate 256 1) Frost [] none ⇒ nonces_asked (request (ids 1) (replicate 256 1) Frost [])
+    ∷ starts 0 (replicate 257 1) Frost [] None ⇒ refuses 9
+    ∷ starts 0 (replicate 256 1) Frost [] None ⇒ nonces_asked (request (ids 1) (replicate 256 1) Frost [])
     ∷ answers 0 (to (replicate 257 1) q0) ⇒ refuses 9
     ∷ answers 0 (to (replicate 256 1) q0) ⇒ recorded_of 0
     ∷ [])
@@ -68,18 +67,18 @@ long_messages =
 -- Start.
 -- "group key held (10)?" comes before 11, and on a start call nothing is changed
 abbrev pub start_unheld : Round
-start_unheld = round (ready ++ (group_cleared ∷ [])) (starts 0 nine Frost [] none ⇒ refuses 10 ∷ []) (left (ids_of 1 0 0) [] [])
+start_unheld = round (ready ++ (group_cleared ∷ [])) (starts 0 nine Frost [] None ⇒ refuses 10 ∷ []) (left (ids_of 1 0 0) [] [])
 
 abbrev pub start_unheld_gathering : Round
-start_unheld_gathering = round (begun ++ (group_cleared ∷ [])) (starts 0 five Schnorr [] (some 7) ⇒ refuses 10 ∷ []) (left9 1)
+start_unheld_gathering = round (begun ++ (group_cleared ∷ [])) (starts 0 five Schnorr [] (Some 7) ⇒ refuses 10 ∷ []) (left9 1)
 
 -- a start without an id takes the next one, wrapping
 abbrev pub sign_id_wraps : Round
 sign_id_wraps =
     round ready
-    (starts 0 nine Frost [] (some (2 ^ 64 - 1)) ⇒ nonces_asked (request (ids_of 1 (2 ^ 64 - 1) 1) nine Frost [])
+    (starts 0 nine Frost [] (Some (2 ^ 64 - 1)) ⇒ nonces_asked (request (ids_of 1 (2 ^ 64 - 1) 1) nine Frost [])
     ∷ at 0 reset ⇒ nothing_told
-    ∷ starts 0 nine Frost [] none ⇒ nonces_asked (request (ids_of 1 0 2) nine Frost [])
+    ∷ starts 0 nine Frost [] None ⇒ nonces_asked (request (ids_of 1 0 2) nine Frost [])
     ∷ [])
     (left (ids_of 1 0 2) nine [])
 
@@ -160,7 +159,7 @@ seal_after_timeout =
 -- kind, by either call
 abbrev pub zero_unconfigured : Round
 zero_unconfigured =
-    round (ready_of (configuration 4 3 3 (some 10) (some 10) (signer 1 (2 ∷ 3 ∷ []) ∷ signer 2 (4 ∷ []) ∷ []) true) (1 ∷ 2 ∷ []))
+    round (ready_of (configuration 4 3 3 (Some 10) (Some 10) (signer 1 (2 ∷ 3 ∷ []) ∷ signer 2 (4 ∷ []) ∷ []) true) (1 ∷ 2 ∷ []))
     (sends 0 m1 ⇒ nonces_asked (request9 1)
     ∷ sends 0 m2 ⇒ refuses 14
     ∷ sends 0 m3 ⇒ nothing_told
@@ -181,7 +180,7 @@ zero_unconfigured =
 
 -- where verification is off neither is asked: no coordinator key, a bad verdict, an unknown signer
 abbrev unverified : List SignerConfig → Config
-unverified signers = configuration 4 3 3 (some 10) (some 10) signers false
+unverified signers = configuration 4 3 3 (Some 10) (Some 10) signers false
 
 abbrev pub verification_off : Round
 verification_off =
@@ -197,12 +196,12 @@ abbrev pub keys_apart : Round
 keys_apart =
     round ready
     (at 0 (set_key coordinator_key false) ⇒ nothing_told
-    ∷ starts 0 nine Frost [] none ⇒ nonces_asked (request9 1)
+    ∷ starts 0 nine Frost [] None ⇒ nonces_asked (request9 1)
     ∷ answers 0 q0 ⇒ refuses 13
     ∷ at 0 (set_key aggregate_key false) ⇒ nothing_told
     ∷ at 0 (set_key coordinator_key true) ⇒ nothing_told
     ∷ answers 0 q0 ⇒ recorded_of 0
-    ∷ starts 0 nine Frost [] none ⇒ refuses 10
+    ∷ starts 0 nine Frost [] None ⇒ refuses 10
     ∷ [])
     (left9 1)
 
@@ -252,7 +251,7 @@ dkg_begins =
     (sends 0 (dkg_begin 1) ⇒ nothing_told
     ∷ sends 0 (dkg_begin 2) ⇒ refuses 15
     ∷ processes 0 (dkg_begin 0) ⇒ refuses 15
-    ∷ starts 0 nine Frost [] none ⇒ nonces_asked (request9 1)
+    ∷ starts 0 nine Frost [] None ⇒ nonces_asked (request9 1)
     ∷ answers 0 q0 ⇒ recorded_of 0
     ∷ [])
     (left9 1)
@@ -261,7 +260,7 @@ dkg_begins =
 -- "Then silently nothing unless, in this order: configured, key generation ended, key set entry, set equal, nonces valid": 7 is not
 -- configured, 2 hasn't ended, 3 has no entry. 4 has an empty set, which an empty list matches
 abbrev odd : Config
-odd = unverified (three ++ (record { id = 3; key_ids = none } ∷ signer 4 [] ∷ []))
+odd = unverified (three ++ (record { id = 3; key_ids = None } ∷ signer 4 [] ∷ []))
 
 abbrev oddly : List Call
 oddly = begun_of odd (0 ∷ 1 ∷ 3 ∷ 4 ∷ [])
@@ -342,7 +341,7 @@ messages_apart =
 -- an empty message is a message
 abbrev pub empty_message : Round
 empty_message =
-    round (ready ++ (starts 0 [] Frost [] none ∷ []))
+    round (ready ++ (starts 0 [] Frost [] None ∷ []))
     (answers 0 (to [] q0) ⇒ recorded_of 0
     ∷ at 11 process_timeout ⇒ nonces_late (0 ∷ []) []
     ∷ answers 0 (to [] q1) ⇒ shares_asked 1 (share_request (ids 1) [] Frost [] (to [] q0 ∷ to [] q1 ∷ []))
@@ -428,7 +427,7 @@ abbrev pub results_replace : Round
 results_replace =
     round ready
     (at 0 (take_results 2 (2 ∷ 0 ∷ [])) ⇒ nothing_told
-    ∷ starts 0 nine Frost [] none ⇒ nonces_asked (request (ids_of 2 1 1) nine Frost [])
+    ∷ starts 0 nine Frost [] None ⇒ nonces_asked (request (ids_of 2 1 1) nine Frost [])
     ∷ answers 0 (under (ids_of 2 1 1) q1) ⇒ nothing_told
     ∷ answers 0 (under (ids_of 2 1 1) q0) ⇒ recorded_of 0
     ∷ answers 0 (under (ids_of 2 1 1) q2) ⇒ recorded_of 2

@@ -1,6 +1,5 @@
 -- "its counts within these limits": a coordinator that is at every limit is within them, and one more of anything is too much.
-use Rattle.std.specs.Prelude.{ℕ, Bool, true, false, List, [], ◌∷◌, replicate}
-use Rattle.std.proofs.Math.Option.{some, none}
+use Rattle.std.specs.Prelude.{Some, None, ℕ, Bool, true, false, List, [], ◌∷◌, replicate}
 use Rattle.layout.specs.Messages.{NonceResponse, SignatureShare}
 use Rattle.layout.specs.Encode.{no_ids}
 use Rattle.step_definition.specs.Configuration.{Config}
@@ -23,7 +22,7 @@ count r = counted r.coordinator (within_limits r.coordinator)
 -- so many signers with sets of so many keys, and num_keys
 abbrev config : ℕ → ℕ → ℕ → Config
 config signers keys num_keys =
-    configuration num_keys 3 3 none none (replicate signers (record { id = 0; key_ids = some (replicate keys 1) })) true
+    configuration num_keys 3 3 None None (replicate signers (record { id = 0; key_ids = Some (replicate keys 1) })) true
 
 -- a response to a message of so many bytes, with so many keys and nonces
 abbrev response : ℕ → ℕ → ℕ → NonceResponse

@@ -1,7 +1,6 @@
 -- 01's "Corners, file by file", each as a round of the form of its worked ones. Where nothing else is said the example's configuration is
 -- used, and rounds begin at clock 0.
-use Rattle.std.specs.Prelude.{ℕ, suc, ◌^◌, ◌-◌, true, false, List, [], ◌∷◌, ◌++◌, replicate}
-use Rattle.std.proofs.Math.Option.{some, none}
+use Rattle.std.specs.Prelude.{Some, None, ℕ, suc, ◌^◌, ◌-◌, true, false, List, [], ◌∷◌, ◌++◌, replicate}
 use Rattle.layout.specs.declared.Ids.{Ids}
 use Rattle.layout.specs.declared.SignatureType.TheVariants.{Frost, Schnorr, Taproot, TaprootRoot}
 use Rattle.layout.specs.Messages.{NonceResponse, SignatureShare, nonce_request, nonce_response}
@@ -20,7 +19,7 @@ all = 0 ∷ 1 ∷ 2 ∷ []
 -- coordinator/mod.rs.
 -- "`threshold` limits exclusion, `sign_threshold` ends nonce gathering ... they needn't be" equal: 2 and 3
 abbrev looser : Config
-looser = configuration 4 2 3 (some 10) (some 10) three true
+looser = configuration 4 2 3 (Some 10) (Some 10) three true
 
 -- 2 keys don't end gathering
 abbrev pub sign_threshold_of : Round
@@ -37,7 +36,7 @@ threshold =
 -- "None never fires"
 abbrev pub no_timeouts : Round
 no_timeouts =
-    round (begun_of (configuration 4 3 3 none none three true) all)
+    round (begun_of (configuration 4 3 3 None None three true) all)
     (answers 0 q0 ⇒ recorded_of 0
     ∷ at 1000000 process_timeout ⇒ nothing_told
     ∷ answers 0 q1 ⇒ shares_asked 1 (shares9 (q0 ∷ q1 ∷ []))
@@ -48,7 +47,7 @@ no_timeouts =
 -- "A timeout fires only where elapsed > timeout": nonces within 10 of their request, shares within 20 of theirs
 abbrev pub own_clocks : Round
 own_clocks =
-    round (ready_of (configuration 4 3 3 (some 10) (some 20) three true) all ++ (starts 5 nine Frost [] none ∷ []))
+    round (ready_of (configuration 4 3 3 (Some 10) (Some 20) three true) all ++ (starts 5 nine Frost [] None ∷ []))
     (answers 6 q0 ⇒ recorded_of 0
     ∷ at 15 process_timeout ⇒ nothing_told
     ∷ at 16 process_timeout ⇒ nonces_late (0 ∷ []) []
@@ -61,7 +60,7 @@ own_clocks =
 -- "backward counts as elapsed 0", and elapsed 0 is not more than timeout 0
 abbrev pub backward : Round
 backward =
-    round (ready_of (configuration 4 3 3 (some 0) (some 0) three true) all ++ (starts 50 nine Frost [] none ∷ []))
+    round (ready_of (configuration 4 3 3 (Some 0) (Some 0) three true) all ++ (starts 50 nine Frost [] None ∷ []))
     (answers 50 q0 ⇒ recorded_of 0
     ∷ at 3 process_timeout ⇒ nothing_told
     ∷ at 50 process_timeout ⇒ nothing_told
@@ -153,7 +152,7 @@ fourth iteration id = response_of (ids iteration) id nine (suc id ∷ []) (good 
 
 abbrev pub three_exclusions : Round
 three_exclusions =
-    round (begun_of (configuration 4 2 2 (some 10) (some 10) four true) (0 ∷ 1 ∷ 2 ∷ 3 ∷ []))
+    round (begun_of (configuration 4 2 2 (Some 10) (Some 10) four true) (0 ∷ 1 ∷ 2 ∷ 3 ∷ []))
     (answers 0 (fourth 1 0) ⇒ recorded_of 0
     ∷ answers 0 (fourth 1 1) ⇒ shares_asked 1 (share_request (ids 1) nine Frost [] (fourth 1 0 ∷ fourth 1 1 ∷ []))
     ∷ sends 0 (shares_of (ids 1) 1 (share 1 (2 ∷ []) ∷ [])) ⇒ taken_of 1
@@ -186,7 +185,7 @@ shared_key =
     let r1 = respond 1 (2 ∷ 3 ∷ []) good in
     round
     (begun_of
-    (configuration 5 2 4 (some 10) (some 10) (signer 0 (1 ∷ 2 ∷ []) ∷ signer 1 (2 ∷ 3 ∷ []) ∷ signer 2 (4 ∷ []) ∷ []) true)
+    (configuration 5 2 4 (Some 10) (Some 10) (signer 0 (1 ∷ 2 ∷ []) ∷ signer 1 (2 ∷ 3 ∷ []) ∷ signer 2 (4 ∷ []) ∷ []) true)
     all)
     (answers 0 r0 ⇒ recorded_of 0
     ∷ answers 0 r1 ⇒ recorded_of 1
@@ -201,27 +200,27 @@ shared_key =
 abbrev pub refused_start : Round
 refused_start =
     round gathered
-    (starts 0 five Schnorr [] (some 7) ⇒ refuses 11 ∷ shares0 ⇒ nothing_told ∷ [])
+    (starts 0 five Schnorr [] (Some 7) ⇒ refuses 11 ∷ shares0 ⇒ nothing_told ∷ [])
     (left (ids_of 1 7 1) five [])
 
 -- without an id the next one, wrapping; in NonceGather every start is refused
 abbrev pub refused_start_next : Round
 refused_start_next =
-    round (ready ++ (starts 0 nine Frost [] (some (2 ^ 64 - 1)) ∷ []))
-    (starts 0 five Frost [] none ⇒ refuses 11 ∷ starts 0 nine Frost [] none ⇒ refuses 11 ∷ [])
+    round (ready ++ (starts 0 nine Frost [] (Some (2 ^ 64 - 1)) ∷ []))
+    (starts 0 five Frost [] None ⇒ refuses 11 ∷ starts 0 nine Frost [] None ⇒ refuses 11 ∷ [])
     (left (ids_of 1 1 1) nine [])
 
 abbrev pub refused_start_wraps : Round
 refused_start_wraps =
-    round (ready ++ (starts 0 nine Frost [] (some (2 ^ 64 - 1)) ∷ []))
-    (starts 0 five Frost [] none ⇒ refuses 11 ∷ answers 0 (under (ids_of 1 0 1) q0) ⇒ recorded_of 0 ∷ [])
+    round (ready ++ (starts 0 nine Frost [] (Some (2 ^ 64 - 1)) ∷ []))
+    (starts 0 five Frost [] None ⇒ refuses 11 ∷ answers 0 (under (ids_of 1 0 1) q0) ⇒ recorded_of 0 ∷ [])
     (left (ids_of 1 0 1) five [])
 
 -- the current message has no record: shares come to nothing and a timeout is 12, which excludes nobody
 abbrev pub unrecorded_message : Round
 unrecorded_message =
     round gathered
-    (starts 0 five Schnorr [] (some 1) ⇒ refuses 11
+    (starts 0 five Schnorr [] (Some 1) ⇒ refuses 11
     ∷ shares0 ⇒ nothing_told
     ∷ at 11 process_timeout ⇒ refuses 12
     ∷ [])
@@ -231,7 +230,7 @@ unrecorded_message =
 abbrev pub other_record : Round
 other_record =
     round (begun ++ (answers 0 (to five q0) ∷ answers 0 q0 ∷ answers 0 q1 ∷ []))
-    (starts 0 five Schnorr [] (some 1) ⇒ refuses 11
+    (starts 0 five Schnorr [] (Some 1) ⇒ refuses 11
     ∷ shares0 ⇒ job_given 0 true (job_of (ids 1) five Frost [] (1 ∷ []) (good ∷ []) (share 0 (1 ∷ []) ∷ []))
     ∷ [])
     (left (ids 1) five [])
@@ -240,7 +239,7 @@ other_record =
 abbrev pub answered_and_malicious : Round
 answered_and_malicious =
     round gathered
-    (starts 0 nine Schnorr [] none ⇒ refuses 11
+    (starts 0 nine Schnorr [] None ⇒ refuses 11
     ∷ shares0 ⇒ fails 17 (1 ∷ 2 ∷ [])
     ∷ shares1 ⇒ fails 17 (1 ∷ 2 ∷ [])
     ∷ at 11 process_timeout ⇒ insufficient (0 ∷ 1 ∷ []) (0 ∷ 1 ∷ [])
@@ -254,7 +253,7 @@ renamed_round =
     let s0 = share 0 (1 ∷ []) in
     let s1 = share 1 (2 ∷ 3 ∷ []) in
     round gathered
-    (starts 0 nine Schnorr [] (some 2) ⇒ refuses 11
+    (starts 0 nine Schnorr [] (Some 2) ⇒ refuses 11
     ∷ sends 0 (shares_of i 0 (s0 ∷ [])) ⇒ taken_of 0
     ∷ sends 0 (shares_of i 1 (s1 ∷ [])) ⇒ job_given 1 true (job_of i nine Frost [] (1 ∷ 2 ∷ 3 ∷ []) (good ∷ good ∷ []) (s0 ∷ s1 ∷ []))
     ∷ [])
@@ -265,7 +264,7 @@ abbrev pub own_ids : Round
 own_ids =
     let q1' = under (ids_of 1 2 1) q1 in
     round (begun ++ (answers 0 q0 ∷ []))
-    (starts 0 nine Frost [] (some 2) ⇒ refuses 11
+    (starts 0 nine Frost [] (Some 2) ⇒ refuses 11
     ∷ answers 0 q1' ⇒ shares_asked 1 (share_request (ids_of 1 2 1) nine Frost [] (q0 ∷ q1' ∷ []))
     ∷ [])
     (left (ids_of 1 2 1) nine [])
@@ -276,10 +275,10 @@ shares_held =
     let other : SignatureShare = record { id = 0; z_i = replicate 32 8; key_ids = 1 ∷ [] } in
     round (begun ++ (answers 0 (to five q0) ∷ answers 0 q0 ∷ answers 0 q1 ∷ []))
     (shares0 ⇒ taken_of 0
-    ∷ starts 0 five Schnorr [] (some 1) ⇒ refuses 11
+    ∷ starts 0 five Schnorr [] (Some 1) ⇒ refuses 11
     ∷ sends 0 (shares_of (ids 1) 0 (other ∷ [])) ⇒ nothing_told
     ∷ at 0 (aggregated true) ⇒ refuses 6
-    ∷ starts 0 nine Schnorr [] (some 1) ⇒ refuses 11
+    ∷ starts 0 nine Schnorr [] (Some 1) ⇒ refuses 11
     ∷ shares1 ⇒ job_given 1 true (job9 (share 0 (1 ∷ []) ∷ share 1 (2 ∷ 3 ∷ []) ∷ []))
     ∷ [])
     (left9 1)
@@ -288,15 +287,15 @@ shares_held =
 abbrev pub start_again : Round
 start_again =
     round gathered
-    (starts 3 five Frost [] none ⇒ nonces_asked (request (ids_of 1 2 2) five Frost []) ∷ shares0 ⇒ nothing_told ∷ [])
+    (starts 3 five Frost [] None ⇒ nonces_asked (request (ids_of 1 2 2) five Frost []) ∷ shares0 ⇒ nothing_told ∷ [])
     (left (ids_of 1 2 2) five [])
 
 abbrev pub root_compared : Round
 root_compared =
-    round (ready ++ (starts 0 nine TaprootRoot root none ∷ answers 0 q0 ∷ answers 0 q1 ∷ []))
-    (starts 0 nine TaprootRoot (replicate 32 5) (some 1) ⇒ refuses 11
-    ∷ starts 0 nine Taproot [] (some 1) ⇒ refuses 11
-    ∷ starts 0 nine TaprootRoot root (some 1) ⇒ nonces_asked (request (ids 2) nine TaprootRoot root)
+    round (ready ++ (starts 0 nine TaprootRoot root None ∷ answers 0 q0 ∷ answers 0 q1 ∷ []))
+    (starts 0 nine TaprootRoot (replicate 32 5) (Some 1) ⇒ refuses 11
+    ∷ starts 0 nine Taproot [] (Some 1) ⇒ refuses 11
+    ∷ starts 0 nine TaprootRoot root (Some 1) ⇒ nonces_asked (request (ids 2) nine TaprootRoot root)
     ∷ [])
     (left9 2)
 
@@ -304,7 +303,7 @@ root_compared =
 abbrev pub iteration_goes_on : Round
 iteration_goes_on =
     round (begun ++ (at 0 reset ∷ []))
-    (starts 0 nine Frost [] none ⇒ nonces_asked (request (ids_of 1 2 2) nine Frost []) ∷ [])
+    (starts 0 nine Frost [] None ⇒ nonces_asked (request (ids_of 1 2 2) nine Frost []) ∷ [])
     (left (ids_of 1 2 2) nine [])
 
 -- fire.rs, Idle.
@@ -322,7 +321,7 @@ another_sign_id =
 -- another is any other, also a smaller one
 abbrev pub smaller_sign_id : Round
 smaller_sign_id =
-    round (ready ++ (starts 0 nine Frost [] (some 7) ∷ at 0 reset ∷ []))
+    round (ready ++ (starts 0 nine Frost [] (Some 7) ∷ at 0 reset ∷ []))
     (sends 0 (nonce_request (request (ids_of 1 3 9) five Frost [])) ⇒ nonces_asked (request (ids_of 1 3 9) five Frost []) ∷ [])
     (left (ids_of 1 3 9) five [])
 
@@ -351,7 +350,7 @@ nonces_not_counted =
 -- "The answered message replaces the current one when its keys suffice; retries use it."
 abbrev pub answered_replaces : Round
 answered_replaces =
-    round (begun_of (configuration 4 1 3 (some 10) (some 10) three true) all)
+    round (begun_of (configuration 4 1 3 (Some 10) (Some 10) three true) all)
     (answers 0 (to five q0) ⇒ recorded_of 0
     ∷ answers 0 (to five q1) ⇒ shares_asked 1 (share_request (ids 1) five Frost [] (to five q0 ∷ to five q1 ∷ []))
     ∷ at 11 process_timeout ⇒ retried_with (0 ∷ 1 ∷ []) (request (ids 2) five Frost [])
@@ -404,7 +403,7 @@ refused_not_kept =
 -- "num_keys − struck keys": num_keys, and not the sizes of the sets together, which are 4. Only 1 silent: 5 − 2 = 3, retry
 abbrev pub spare_key : Round
 spare_key =
-    round (begun_of (configuration 5 3 3 (some 10) (some 10) three true) all ++ (answers 0 q0 ∷ answers 0 q1 ∷ shares0 ∷ []))
+    round (begun_of (configuration 5 3 3 (Some 10) (Some 10) three true) all ++ (answers 0 q0 ∷ answers 0 q1 ∷ shares0 ∷ []))
     (at 11 process_timeout ⇒ retried_with (1 ∷ []) (request9 2) ∷ [])
     (left (ids 2) nine (1 ∷ []))
 
@@ -435,7 +434,7 @@ abbrev pub aggregator_error : Round
 aggregator_error =
     round (gathered ++ (shares0 ∷ shares1 ∷ at 0 (aggregated false) ∷ []))
     (shares0 ⇒ nothing_told
-    ∷ starts 0 nine Schnorr [] (some 1) ⇒ refuses 11
+    ∷ starts 0 nine Schnorr [] (Some 1) ⇒ refuses 11
     ∷ at 11 process_timeout ⇒ retried_with [] (request9 2)
     ∷ [])
     (left9 2)
@@ -446,7 +445,7 @@ abbrev pub reset_ends : Round
 reset_ends =
     round (gathered ++ (at 0 reset ∷ []))
     (at 99 process_timeout ⇒ nothing_told
-    ∷ starts 0 nine Frost [] none ⇒ nonces_asked (request (ids_of 1 2 2) nine Frost [])
+    ∷ starts 0 nine Frost [] None ⇒ nonces_asked (request (ids_of 1 2 2) nine Frost [])
     ∷ answers 0 (under (ids_of 1 2 2) q0) ⇒ nothing_told
     ∷ at 11 process_timeout ⇒ refuses 12
     ∷ [])
@@ -458,7 +457,7 @@ reset_keeps = round retry (at 11 reset ⇒ nothing_told ∷ []) (left (ids 2) ni
 -- and the malicious list: 0 stays malicious when key generation has ended anew
 abbrev pub reset_keeps_malicious : Round
 reset_keeps_malicious =
-    round (retry ++ (at 11 reset ∷ at 11 (take_results 1 all) ∷ starts 11 nine Frost [] (some 1) ∷ []))
+    round (retry ++ (at 11 reset ∷ at 11 (take_results 1 all) ∷ starts 11 nine Frost [] (Some 1) ∷ []))
     (answers 11 (under (ids 3) q0) ⇒ nothing_told ∷ answers 11 (under (ids 3) q1) ⇒ recorded_of 1 ∷ [])
     (left (ids 3) nine (0 ∷ []))
 
@@ -468,7 +467,7 @@ reset_drops_job =
     round (gathered ++ (shares0 ∷ shares1 ∷ []))
     (at 0 reset ⇒ nothing_told
     ∷ at 0 (aggregated true) ⇒ refuses 6
-    ∷ starts 0 nine Frost [] (some 1) ⇒ nonces_asked (request9 2)
+    ∷ starts 0 nine Frost [] (Some 1) ⇒ nonces_asked (request9 2)
     ∷ answers 0 (under (ids 2) q0) ⇒ nothing_told
     ∷ [])
     (left9 2)

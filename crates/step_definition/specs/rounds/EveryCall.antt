@@ -1,7 +1,6 @@
 -- "The questions, in order", those of commissioning (1 to 3) and those that calls are asked before their own work (4 to 7): who is asked
 -- what, and what comes first.
-use Rattle.std.specs.Prelude.{ℕ, ◌+◌, ◌-◌, true, false, List, [], ◌∷◌, ◌++◌, map, replicate}
-use Rattle.std.proofs.Math.Option.{some, none}
+use Rattle.std.specs.Prelude.{Some, None, ℕ, ◌+◌, ◌-◌, true, false, List, [], ◌∷◌, ◌++◌, map, replicate}
 use Rattle.layout.specs.Limits.{store_length, answer_length}
 use Rattle.layout.specs.declared.SignatureType.TheVariants.{Frost}
 use Rattle.layout.specs.Messages.{nonce_response, dkg_begin}
@@ -29,10 +28,10 @@ may_idle = can_move (position Idle [])
 
 -- a configuration with num_keys and signers
 abbrev having : ℕ → List SignerConfig → Config
-having num_keys signers = configuration num_keys 3 3 none none signers true
+having num_keys signers = configuration num_keys 3 3 None None signers true
 
 abbrev keyless : ℕ → SignerConfig
-keyless id = record { id = id; key_ids = none }
+keyless id = record { id = id; key_ids = None }
 
 abbrev ten : List ℕ
 ten = 0 ∷ 1 ∷ 2 ∷ 3 ∷ 4 ∷ 5 ∷ 6 ∷ 7 ∷ 8 ∷ 9 ∷ []
@@ -46,7 +45,7 @@ takes g = round [] (commissions store_length g ⇒ nothing_told ∷ at 0 may_idl
 
 -- refused, and "the state is uncommissioned", also where there was a coordinator
 abbrev refuses_to : ℕ → Config → Round
-refuses_to n g = round begun (commissions store_length g ⇒ refuses n ∷ at 0 may_idle ⇒ refuses 4 ∷ []) none
+refuses_to n g = round begun (commissions store_length g ⇒ refuses n ∷ at 0 may_idle ⇒ refuses 4 ∷ []) None
 
 -- Commissioning: "at most 10 signers, ids distinct (1)?"
 abbrev pub ten_signers : Round
@@ -97,7 +96,7 @@ commissioned_again =
     (commissions 0 example ⇒ nothing_told
     ∷ lends 0 answer_length may_idle ⇒ refuses 4
     ∷ at 0 (aggregated true) ⇒ refuses 6
-    ∷ starts 0 nine Frost [] none ⇒ refuses 10
+    ∷ starts 0 nine Frost [] None ⇒ refuses 10
     ∷ sends 0 (dkg_begin 0) ⇒ refuses 13
     ∷ [])
     (left (ids_of 0 0 0) [] [])
@@ -116,7 +115,7 @@ abbrev move : Operation
 move = can_move (position (NonceRequest Frost) [])
 
 abbrev start : Operation
-start = start_signing (record { message = five; signature_type = Frost; root = []; sign_id = some 7 })
+start = start_signing (record { message = five; signature_type = Frost; root = []; sign_id = Some 7 })
 
 abbrev by_process : List ℕ → Operation
 by_process bytes = receive process bytes
@@ -143,7 +142,7 @@ uncommissioned4 =
     ∷ at 0 (aggregated false) ⇒ refuses 4
     ∷ at 0 reset ⇒ refuses 4
     ∷ [])
-    none
+    None
 
 -- a store of 52,223 bytes, at which 4 comes before 6 and 7 ...
 abbrev pub short_store : Round
@@ -219,7 +218,7 @@ short_room =
     let short : Operation → Call = λ o. lending 99 true store_length (answer_length - 1) (other o) in
     round (begun ++ (at 0 set_group ∷ []))
     (short start ⇒ refuses 7
-    ∷ short (start_signing (record { message = replicate 257 1; signature_type = Frost; root = []; sign_id = none })) ⇒ refuses 7
+    ∷ short (start_signing (record { message = replicate 257 1; signature_type = Frost; root = []; sign_id = None })) ⇒ refuses 7
     ∷ short (by_process no_packet) ⇒ refuses 7
     ∷ short (by_message no_packet) ⇒ refuses 7
     ∷ short (by_message (encode (nonce_response q0))) ⇒ refuses 7

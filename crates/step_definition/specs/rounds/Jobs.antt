@@ -1,6 +1,5 @@
 -- Whole rounds to their end, under each signature type; shares that are missing or empty; kinds 32 to 34 byte by byte ("Packet layout").
-use Rattle.std.specs.Prelude.{ℕ, true, false, List, [], ◌∷◌, ◌++◌, replicate}
-use Rattle.std.proofs.Math.Option.{some, none}
+use Rattle.std.specs.Prelude.{Some, None, ℕ, true, false, List, [], ◌∷◌, ◌++◌, replicate}
 use Rattle.layout.specs.declared.SignatureType.{SignatureType}
 use Rattle.layout.specs.declared.SignatureType.TheVariants.{Frost, Schnorr, Taproot, TaprootRoot}
 use Rattle.layout.specs.Messages.{SignatureShare, nonce_request}
@@ -18,7 +17,7 @@ use Rattle.step_definition.specs.rounds.Rounds.{written, handed}
 abbrev signed : SignatureType → List ℕ → ℕ → Round
 signed t root kind =
     round ready
-    (starts 0 nine t root none ⇒ nonces_asked (request (ids 1) nine t root)
+    (starts 0 nine t root None ⇒ nonces_asked (request (ids 1) nine t root)
     ∷ answers 0 q1 ⇒ recorded_of 1
     ∷ answers 0 q0 ⇒ shares_asked 0 (share_request (ids 1) nine t root (q0 ∷ q1 ∷ []))
     ∷ shares1 ⇒ taken_of 1
@@ -44,20 +43,20 @@ signed_root = signed TaprootRoot root 2
 -- a retry keeps type and root
 abbrev pub retry_keeps_root : Round
 retry_keeps_root =
-    round (ready ++ (starts 0 nine TaprootRoot root none ∷ answers 0 q0 ∷ answers 0 q1 ∷ shares1 ∷ []))
+    round (ready ++ (starts 0 nine TaprootRoot root None ∷ answers 0 q0 ∷ answers 0 q1 ∷ shares1 ∷ []))
     (at 11 process_timeout ⇒ retried_with (0 ∷ []) (request (ids 2) nine TaprootRoot root) ∷ [])
     (left (ids 2) nine (0 ∷ []))
 
 -- a root beside another type is dropped
 abbrev pub root_dropped : Round
-root_dropped = round ready (starts 0 nine Schnorr root none ⇒ nonces_asked (request (ids 1) nine Schnorr []) ∷ []) (left9 1)
+root_dropped = round ready (starts 0 nine Schnorr root None ⇒ nonces_asked (request (ids 1) nine Schnorr []) ∷ []) (left9 1)
 
 -- "every responder's shares are held": of three one is refused. "lists are each signer's list, joined in ascending signer id", as sent
 abbrev pub one_of_three : Round
 one_of_three =
     let one = response_of (ids 1) 1 nine (3 ∷ 2 ∷ []) (good ∷ good ∷ []) in
     let s1 = share 9 (3 ∷ []) ∷ share 8 (2 ∷ []) ∷ [] in
-    round (begun_of (configuration 4 3 4 (some 10) (some 10) three true) (0 ∷ 1 ∷ 2 ∷ []))
+    round (begun_of (configuration 4 3 4 (Some 10) (Some 10) three true) (0 ∷ 1 ∷ 2 ∷ []))
     (answers 0 q2 ⇒ recorded_of 2
     ∷ answers 0 one ⇒ recorded_of 1
     ∷ answers 0 q0 ⇒ shares_asked 0 (shares9 (q0 ∷ one ∷ q2 ∷ []))
@@ -73,7 +72,7 @@ one_of_three =
 abbrev pub empty_shares : Round
 empty_shares =
     let q4 = response_of (ids 1) 4 nine [] [] in
-    round (begun_of (configuration 4 3 3 (some 10) (some 10) (three ++ (signer 4 [] ∷ [])) true) (0 ∷ 1 ∷ 4 ∷ []))
+    round (begun_of (configuration 4 3 3 (Some 10) (Some 10) (three ++ (signer 4 [] ∷ [])) true) (0 ∷ 1 ∷ 4 ∷ []))
     (answers 0 q0 ⇒ recorded_of 0
     ∷ answers 0 q4 ⇒ recorded_of 4
     ∷ answers 0 q1 ⇒ shares_asked 1 (shares9 (q0 ∷ q1 ∷ q4 ∷ []))

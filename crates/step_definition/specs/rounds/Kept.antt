@@ -2,8 +2,7 @@
 -- is told by no later answer; what reset, a start, a retry, a share request and the aggregator's answer keep; and states that no list of
 -- calls reaches, of which the step definition says something all the same ("The step definition holds for every call"). In what is held
 -- each field that could be lost or taken for another has a value of its own.
-use Rattle.std.specs.Prelude.{ℕ, Bool, true, false, List, [], ◌∷◌, ◌++◌, map, replicate}
-use Rattle.std.proofs.Math.Option.{Option, some, none}
+use Rattle.std.specs.Prelude.{Option, Some, None, ℕ, Bool, true, false, List, [], ◌∷◌, ◌++◌, map, replicate}
 use Rattle.layout.specs.Limits.{store_length, answer_length}
 use Rattle.layout.specs.declared.Ids.{Ids}
 use Rattle.layout.specs.declared.SignatureType.TheVariants.{Frost, Schnorr, Taproot, TaprootRoot}
@@ -53,7 +52,7 @@ apart signers =
       threshold = 4;
       dkg_threshold = 5;
       sign_threshold = 3;
-      timeouts = record { dkg_public = some 31; dkg_private = some 32; dkg_end = some 33; nonce = some 10; sign = some 20 };
+      timeouts = record { dkg_public = Some 31; dkg_private = Some 32; dkg_end = Some 33; nonce = Some 10; sign = Some 20 };
       signers = signers;
       verify_packet_sigs = true;
     }
@@ -98,7 +97,7 @@ shared1 = shared 1 (2 ∷ 3 ∷ [])
 
 -- 0's shares held, and both clocks started
 abbrev halfway : List ℕ → Progress
-halfway waiters = progress nine (both waiters ∷ []) (shared0 ∷ []) (some 2) (some 3)
+halfway waiters = progress nine (both waiters ∷ []) (shared0 ∷ []) (Some 2) (Some 3)
 
 abbrev idle : Position
 idle = position Idle []
@@ -115,7 +114,7 @@ abbrev pub commissioned_ascending : From
 commissioned_ascending =
     from miscounted
     (calling 5 (commission (apart (signer 2 (4 ∷ []) ∷ signer 0 (1 ∷ []) ∷ signer 1 (3 ∷ 2 ∷ []) ∷ []))) ⇒ nothing_told ∷ [])
-    (held (standing_of (apart three) [] false false []) (ids_of 0 0 0) idle (progress [] [] [] none none) false)
+    (held (standing_of (apart three) [] false false []) (ids_of 0 0 0) idle (progress [] [] [] None None) false)
 
 -- "state commissioned, its counts within these limits (4)?" What is no coordinator stays what it is
 abbrev refused4 : Held → From
@@ -124,7 +123,7 @@ refused4 h =
     (at 0 (set_key coordinator_key true) ⇒ refuses 4
     ∷ at 0 (take_results 1 []) ⇒ refuses 4
     ∷ at 0 (can_move idle) ⇒ refuses 4
-    ∷ starts 0 nine Frost [] none ⇒ refuses 4
+    ∷ starts 0 nine Frost [] None ⇒ refuses 4
     ∷ processes 0 (dkg_begin 1) ⇒ refuses 4
     ∷ sends 0 (dkg_begin 1) ⇒ refuses 4
     ∷ at 0 process_timeout ⇒ refuses 4
@@ -151,14 +150,14 @@ recorded4 =
 
 abbrev pub refused_gathering : From
 refused_gathering =
-    let h = held (standing (0 ∷ [])) (ids 1) nonces (progress nine recorded4 (shared0 ∷ []) (some 20) (some 7)) false in
+    let h = held (standing (0 ∷ [])) (ids 1) nonces (progress nine recorded4 (shared0 ∷ []) (Some 20) (Some 7)) false in
     from h
     (lending 50 true 0 answer_length (other reset) ⇒ refuses 4
     ∷ at 50 (aggregated true) ⇒ refuses 6
     ∷ lending 50 true store_length 0 (other process_timeout) ⇒ refuses 7
     ∷ at 50 (receive process (1 ∷ [])) ⇒ refuses 8
     ∷ processes 50 (nonce_response (to (replicate 257 1) q1)) ⇒ refuses 9
-    ∷ starts 50 (replicate 257 1) Frost [] none ⇒ refuses 9
+    ∷ starts 50 (replicate 257 1) Frost [] None ⇒ refuses 9
     ∷ at 50 process_timeout ⇒ refuses 12
     ∷ processes 50 (nonce_response q1) ⇒ refuses 12
     ∷ lending 50 false store_length answer_length (other (receive process_message (encode (nonce_response (to (1 ∷ []) q1))))) ⇒ refuses 14
@@ -207,7 +206,7 @@ refused_idle =
 abbrev pub refused10 : From
 refused10 =
     let h = held (standing_of (apart three) (0 ∷ []) true false (1 ∷ [])) (ids_of 1 5 8) idle (halfway []) false in
-    from h (starts 0 five Frost [] none ⇒ refuses 10 ∷ starts 0 five Schnorr [] (some 7) ⇒ refuses 10 ∷ []) h
+    from h (starts 0 five Frost [] None ⇒ refuses 10 ∷ starts 0 five Schnorr [] (Some 7) ⇒ refuses 10 ∷ []) h
 
 -- 5, of every call that is asked it: the job stays out
 abbrev pub refused5 : From
@@ -218,7 +217,7 @@ refused5 =
     ∷ at 99 (set_key aggregate_key false) ⇒ refuses 5
     ∷ at 99 (take_results 2 (0 ∷ [])) ⇒ refuses 5
     ∷ at 99 (can_move idle) ⇒ refuses 5
-    ∷ starts 99 five Frost [] none ⇒ refuses 5
+    ∷ starts 99 five Frost [] None ⇒ refuses 5
     ∷ processes 99 (nonce_response q2) ⇒ refuses 5
     ∷ shares1 ⇒ refuses 5
     ∷ at 99 process_timeout ⇒ refuses 5
@@ -229,7 +228,7 @@ refused5 =
 -- 12 of a share timeout, where the current message has no record: nobody is excluded. And 24 while shares are gathered
 abbrev pub refused_sharing : From
 refused_sharing =
-    let h = held (standing (2 ∷ [])) (ids 1) sharing (progress five (both (0 ∷ 1 ∷ []) ∷ []) (shared0 ∷ []) (some 2) (some 3)) false in
+    let h = held (standing (2 ∷ [])) (ids 1) sharing (progress five (both (0 ∷ 1 ∷ []) ∷ []) (shared0 ∷ []) (Some 2) (Some 3)) false in
     from h
     (at 24 process_timeout ⇒ refuses 12
     ∷ processes 24 (shares_of (ids 1) 1 (share 1 (2 ∷ 3 ∷ []) ∷ [])) ⇒ refuses 12
@@ -255,7 +254,7 @@ idle_unheld =
 abbrev pub gathering_unheld : From
 gathering_unheld =
     let s = standing_of (apart three) (0 ∷ 1 ∷ []) true false (2 ∷ []) in
-    from (held s (ids 1) nonces (progress nine (answered five (to five q0 ∷ []) (0 ∷ []) ∷ []) (shared0 ∷ []) (some 2) (some 1)) false)
+    from (held s (ids 1) nonces (progress nine (answered five (to five q0 ∷ []) (0 ∷ []) ∷ []) (shared0 ∷ []) (Some 2) (Some 1)) false)
     (answers 9 (to five q1) ⇒ tells (numbered error 10 []) (recorded 1 ∷ []) ∷ [])
     (held s
     (ids 1)
@@ -263,23 +262,23 @@ gathering_unheld =
     (progress five
     (answered_at five (to five q0 ∷ to five q1 ∷ []) (came 0 7 ∷ came 1 9 ∷ []) (0 ∷ 1 ∷ []) ∷ [])
     (shared0 ∷ [])
-    (some 2)
-    (some 1))
+    (Some 2)
+    (Some 1))
     false)
 
 -- "11, message and sign id"
 abbrev pub start_refused : From
 start_refused =
     from (held (standing (2 ∷ [])) (ids 1) sharing (halfway (0 ∷ 1 ∷ [])) false)
-    (starts 9 five Schnorr [] none ⇒ refuses 11 ∷ [])
-    (held (standing (2 ∷ [])) (ids_of 1 2 1) sharing (progress five (both (0 ∷ 1 ∷ []) ∷ []) (shared0 ∷ []) (some 2) (some 3)) false)
+    (starts 9 five Schnorr [] None ⇒ refuses 11 ∷ [])
+    (held (standing (2 ∷ [])) (ids_of 1 2 1) sharing (progress five (both (0 ∷ 1 ∷ []) ∷ []) (shared0 ∷ []) (Some 2) (Some 3)) false)
 
 -- "20 to 22, the waiter": of the current message only. Verification is off; 2 has not ended, 3 and 4 have no entry, of whom 3 has ended,
 -- 7 is not configured; of message 5 too 1 and 7 are waited for
 abbrev odd : Standing
 odd =
     standing_of
-    (configuration 4 3 3 (some 10) (some 10) (three ++ (record { id = 3; key_ids = none } ∷ record { id = 4; key_ids = none } ∷ [])) false)
+    (configuration 4 3 3 (Some 10) (Some 10) (three ++ (record { id = 3; key_ids = None } ∷ record { id = 4; key_ids = None } ∷ [])) false)
     (0 ∷ 1 ∷ 3 ∷ 7 ∷ [])
     true
     true
@@ -290,7 +289,7 @@ waited_for waiters =
     held odd
     (ids 1)
     sharing
-    (progress nine (answered five (to five q0 ∷ []) (1 ∷ 7 ∷ []) ∷ both waiters ∷ []) (shared0 ∷ []) (some 0) (some 0))
+    (progress nine (answered five (to five q0 ∷ []) (1 ∷ 7 ∷ []) ∷ both waiters ∷ []) (shared0 ∷ []) (Some 0) (Some 0))
     false
 
 abbrev pub unconfigured20 : From
@@ -322,7 +321,7 @@ wrong_keys22 = from (waited_for (0 ∷ 1 ∷ [])) (shares 0 1 (2 ∷ 3 ∷ 4 ∷
 -- "23, the job is no longer out"
 abbrev pub failed23 : From
 failed23 =
-    let r = progress nine (both [] ∷ []) (shared0 ∷ shared1 ∷ []) (some 2) (some 3) in
+    let r = progress nine (both [] ∷ []) (shared0 ∷ shared1 ∷ []) (Some 2) (Some 3) in
     from (held (standing (2 ∷ [])) (ids 1) sharing r true)
     (at 9 (aggregated false) ⇒ fails 23 [] ∷ [])
     (held (standing (2 ∷ [])) (ids 1) sharing r false)
@@ -355,7 +354,7 @@ nothing_idle =
 abbrev pub nothing_gathering : From
 nothing_gathering =
     let i = ids_of 3 4 5 in
-    let r = progress nine (answered nine (q1 ∷ []) (1 ∷ []) ∷ []) (shared0 ∷ []) (some 90) (some 3) in
+    let r = progress nine (answered nine (q1 ∷ []) (1 ∷ []) ∷ []) (shared0 ∷ []) (Some 90) (Some 3) in
     let h = held (standing (2 ∷ [])) i nonces r false in
     from h
     (answers 99 (under i (respond 0 [] good)) ⇒ nothing_told
@@ -410,7 +409,7 @@ group_key_cleared = from (with_keys true true) (at 9 (set_key aggregate_key fals
 -- "Success moves to Idle": records, shares and clocks stay
 abbrev pub succeeded : From
 succeeded =
-    let r = progress nine (both [] ∷ []) (shared0 ∷ shared1 ∷ []) (some 2) (some 3) in
+    let r = progress nine (both [] ∷ []) (shared0 ∷ shared1 ∷ []) (Some 2) (Some 3) in
     from (held (standing (2 ∷ [])) (ids 1) (position (SigShareGather TaprootRoot) root) r true)
     (at 9 (aggregated true) ⇒ saying 2 ∷ [])
     (held (standing (2 ∷ [])) (ids 1) idle r false)
@@ -423,10 +422,10 @@ reset_whole =
     (held (standing (2 ∷ []))
     (ids_of 3 4 5)
     (position (SigShareGather TaprootRoot) root)
-    (progress nine (both [] ∷ []) (shared0 ∷ shared1 ∷ []) (some 2) (some 3))
+    (progress nine (both [] ∷ []) (shared0 ∷ shared1 ∷ []) (Some 2) (Some 3))
     true)
     (at 9 reset ⇒ nothing_told ∷ [])
-    (held (standing_of (apart three) [] true true (2 ∷ [])) (ids_of 3 4 5) idle (progress nine [] [] none none) false)
+    (held (standing_of (apart three) [] true true (2 ∷ [])) (ids_of 3 4 5) idle (progress nine [] [] None None) false)
 
 -- results: "replace the dkg id and the earlier ended signers", kept ascending, repeats once
 abbrev pub results_taken : From
@@ -438,27 +437,27 @@ results_taken =
 -- a nonce request empties the records and starts its clock; shares and the share clock stay. By a start in Idle
 abbrev pub started : From
 started =
-    from (held (standing (2 ∷ [])) (ids_of 3 4 5) idle (progress nine (both [] ∷ []) (shared0 ∷ shared1 ∷ []) (some 2) (some 3)) false)
-    (starts 9 five Taproot root none ⇒ nonces_asked (request (ids_of 3 5 6) five Taproot []) ∷ [])
+    from (held (standing (2 ∷ [])) (ids_of 3 4 5) idle (progress nine (both [] ∷ []) (shared0 ∷ shared1 ∷ []) (Some 2) (Some 3)) false)
+    (starts 9 five Taproot root None ⇒ nonces_asked (request (ids_of 3 5 6) five Taproot []) ∷ [])
     (held (standing (2 ∷ []))
     (ids_of 3 5 6)
     (position (NonceGather Taproot) [])
-    (progress five [] (shared0 ∷ shared1 ∷ []) (some 9) (some 3))
+    (progress five [] (shared0 ∷ shared1 ∷ []) (Some 9) (Some 3))
     false)
 
 -- by a start while shares of its type are gathered
 abbrev pub started_sharing : From
 started_sharing =
-    from (held (standing (2 ∷ [])) (ids 1) sharing (progress nine (both (0 ∷ []) ∷ []) (shared1 ∷ []) (some 2) (some 3)) false)
-    (starts 9 five Frost [] (some 7) ⇒ nonces_asked (request (ids_of 1 7 2) five Frost []) ∷ [])
-    (held (standing (2 ∷ [])) (ids_of 1 7 2) nonces (progress five [] (shared1 ∷ []) (some 9) (some 3)) false)
+    from (held (standing (2 ∷ [])) (ids 1) sharing (progress nine (both (0 ∷ []) ∷ []) (shared1 ∷ []) (Some 2) (Some 3)) false)
+    (starts 9 five Frost [] (Some 7) ⇒ nonces_asked (request (ids_of 1 7 2) five Frost []) ∷ [])
+    (held (standing (2 ∷ [])) (ids_of 1 7 2) nonces (progress five [] (shared1 ∷ []) (Some 9) (Some 3)) false)
 
 -- by a retry, which also excludes: 6 − 1 − 1 keys are the threshold, 4
 abbrev pub retried_whole : From
 retried_whole =
-    from (held (standing (2 ∷ [])) (ids 1) sharing (progress nine (both (0 ∷ []) ∷ []) (shared1 ∷ []) (some 2) (some 3)) false)
+    from (held (standing (2 ∷ [])) (ids 1) sharing (progress nine (both (0 ∷ []) ∷ []) (shared1 ∷ []) (Some 2) (Some 3)) false)
     (at 24 process_timeout ⇒ retried_with (0 ∷ []) (request9 2) ∷ [])
-    (held (standing (0 ∷ 2 ∷ [])) (ids 2) nonces (progress nine [] (shared1 ∷ []) (some 24) (some 3)) false)
+    (held (standing (0 ∷ 2 ∷ [])) (ids 2) nonces (progress nine [] (shared1 ∷ []) (Some 24) (Some 3)) false)
 
 -- "InsufficientSigners, state kept, strikes kept": 6 − 2 − 1 are fewer; the waiters stay
 abbrev pub insufficient_whole : From
@@ -470,7 +469,7 @@ insufficient_whole =
 -- NonceTimeout: its waiters, not its responders, and "The state stays."
 abbrev pub late_whole : From
 late_whole =
-    let r = progress nine (answered nine (q0 ∷ []) (1 ∷ []) ∷ []) (shared1 ∷ []) (some 2) (some 3) in
+    let r = progress nine (answered nine (q0 ∷ []) (1 ∷ []) ∷ []) (shared1 ∷ []) (Some 2) (Some 3) in
     let h = held (standing (2 ∷ [])) (ids 1) nonces r false in
     from h (at 13 process_timeout ⇒ nonces_late (1 ∷ []) (2 ∷ []) ∷ []) h
 
@@ -479,7 +478,7 @@ abbrev pub recorded_whole : From
 recorded_whole =
     let q = under (ids_of 3 4 5) q2 in
     let h : List SignRoundInfo → Held = λ records.
-    held (standing (1 ∷ [])) (ids_of 3 4 5) nonces (progress nine records (shared1 ∷ []) (some 2) (some 3)) false in
+    held (standing (1 ∷ [])) (ids_of 3 4 5) nonces (progress nine records (shared1 ∷ []) (Some 2) (Some 3)) false in
     from (h (answered nine (q0 ∷ []) (0 ∷ []) ∷ []))
     (answers 9 q ⇒ recorded_of 2 ∷ answers 8 (to five q) ⇒ recorded_of 2 ∷ [])
     (h
@@ -492,7 +491,7 @@ abbrev pub shares_requested : From
 shares_requested =
     let other5 = answered five (to five q0 ∷ []) (0 ∷ []) in
     let only1 = answered nine (q1 ∷ []) (1 ∷ []) in
-    from (held (standing (2 ∷ [])) (ids 1) nonces (progress nine (other5 ∷ only1 ∷ []) (shared1 ∷ []) (some 2) (some 1)) false)
+    from (held (standing (2 ∷ [])) (ids 1) nonces (progress nine (other5 ∷ only1 ∷ []) (shared1 ∷ []) (Some 2) (Some 1)) false)
     (answers 9 q0 ⇒ shares_asked 0 (shares9 (q0 ∷ q1 ∷ [])) ∷ [])
     (held (standing (2 ∷ []))
     (ids 1)
@@ -500,61 +499,61 @@ shares_requested =
     (progress nine
     (other5 ∷ answered_at nine (q0 ∷ q1 ∷ []) (came 0 9 ∷ came 1 7 ∷ []) (0 ∷ 1 ∷ []) ∷ [])
     []
-    (some 2)
-    (some 9))
+    (Some 2)
+    (Some 9))
     false)
 
 -- shares are kept in their place by signer, whoever comes first
 abbrev pub shares_in_place : From
 shares_in_place =
     let all : List ℕ → SignRoundInfo = λ waiters. answered nine (q0 ∷ q1 ∷ q2 ∷ []) waiters in
-    from (held (standing (2 ∷ [])) (ids 1) sharing (progress nine (all (1 ∷ 2 ∷ []) ∷ []) (shared0 ∷ []) (some 2) (some 3)) false)
+    from (held (standing (2 ∷ [])) (ids 1) sharing (progress nine (all (1 ∷ 2 ∷ []) ∷ []) (shared0 ∷ []) (Some 2) (Some 3)) false)
     (shares1 ⇒ taken_of 1 ∷ [])
-    (held (standing (2 ∷ [])) (ids 1) sharing (progress nine (all (2 ∷ []) ∷ []) (shared0 ∷ shared1 ∷ []) (some 2) (some 3)) false)
+    (held (standing (2 ∷ [])) (ids 1) sharing (progress nine (all (2 ∷ []) ∷ []) (shared0 ∷ shared1 ∷ []) (Some 2) (Some 3)) false)
 
 -- the last waiter's put the job out
 abbrev pub job_put : From
 job_put =
-    from (held (standing (2 ∷ [])) (ids 1) sharing (progress nine (both (0 ∷ []) ∷ []) (shared1 ∷ []) (some 2) (some 3)) false)
+    from (held (standing (2 ∷ [])) (ids 1) sharing (progress nine (both (0 ∷ []) ∷ []) (shared1 ∷ []) (Some 2) (Some 3)) false)
     (shares0 ⇒ job_given 0 true (job9 (share 0 (1 ∷ []) ∷ share 1 (2 ∷ 3 ∷ []) ∷ [])) ∷ [])
-    (held (standing (2 ∷ [])) (ids 1) sharing (progress nine (both [] ∷ []) (shared0 ∷ shared1 ∷ []) (some 2) (some 3)) true)
+    (held (standing (2 ∷ [])) (ids 1) sharing (progress nine (both [] ∷ []) (shared0 ∷ shared1 ∷ []) (Some 2) (Some 3)) true)
 
 -- "yes exactly when every responder's shares are held": 2's are held, which is no responder, and don't make up for 0's
 abbrev pub shares_of_another : From
 shares_of_another =
     let shared2 = shared 2 (4 ∷ []) in
-    from (held (standing (2 ∷ [])) (ids 1) sharing (progress nine (both (1 ∷ []) ∷ []) (shared2 ∷ []) (some 2) (some 3)) false)
+    from (held (standing (2 ∷ [])) (ids 1) sharing (progress nine (both (1 ∷ []) ∷ []) (shared2 ∷ []) (Some 2) (Some 3)) false)
     (shares1 ⇒ job_given 1 false (job9 (share 1 (2 ∷ 3 ∷ []) ∷ [])) ∷ [])
-    (held (standing (2 ∷ [])) (ids 1) sharing (progress nine (both [] ∷ []) (shared1 ∷ shared2 ∷ []) (some 2) (some 3)) true)
+    (held (standing (2 ∷ [])) (ids 1) sharing (progress nine (both [] ∷ []) (shared1 ∷ shared2 ∷ []) (Some 2) (Some 3)) true)
 
 -- States that no list of calls reaches.
 -- a malicious signer without an entry, or without a public key, counts no keys: 4 − 1 = 3
 abbrev pub malicious_without_keys : From
 malicious_without_keys =
     let s : List ℕ → Standing = λ malicious. standing_of odd.config (0 ∷ 1 ∷ []) true true malicious in
-    from (held (s (3 ∷ 7 ∷ [])) (ids 1) sharing (progress nine (both (0 ∷ []) ∷ []) [] (some 0) (some 0)) false)
+    from (held (s (3 ∷ 7 ∷ [])) (ids 1) sharing (progress nine (both (0 ∷ []) ∷ []) [] (Some 0) (Some 0)) false)
     (at 11 process_timeout ⇒ retried_with (0 ∷ []) (request9 2) ∷ [])
-    (held (s (0 ∷ 3 ∷ 7 ∷ [])) (ids 2) nonces (progress nine [] [] (some 11) (some 0)) false)
+    (held (s (0 ∷ 3 ∷ 7 ∷ [])) (ids 2) nonces (progress nine [] [] (Some 11) (Some 0)) false)
 
 -- two records of one message: the first is looked at and changed. A waiter that is listed twice is taken off
 abbrev pub two_records : From
 two_records =
-    let r : List ℕ → Progress = λ waiters. progress nine (both waiters ∷ both (0 ∷ 2 ∷ []) ∷ []) (shared1 ∷ []) (some 2) (some 3) in
+    let r : List ℕ → Progress = λ waiters. progress nine (both waiters ∷ both (0 ∷ 2 ∷ []) ∷ []) (shared1 ∷ []) (Some 2) (Some 3) in
     let h : List ℕ → Held = λ waiters. held (standing (2 ∷ [])) (ids 1) sharing (r waiters) false in
     from (h (0 ∷ 0 ∷ 1 ∷ [])) (shares 0 2 (4 ∷ []) ⇒ nothing_told ∷ shares 0 0 [] ⇒ fails 22 (0 ∷ []) ∷ []) (h (1 ∷ []))
 
 -- no clock was started
 abbrev pub no_clock : From
 no_clock =
-    let h : Position → Held = λ p. held (standing []) (ids 1) p (progress nine (both (0 ∷ []) ∷ []) [] none none) false in
+    let h : Position → Held = λ p. held (standing []) (ids 1) p (progress nine (both (0 ∷ []) ∷ []) [] None None) false in
     from (h sharing) (at 99 process_timeout ⇒ nothing_told ∷ processes 99 (dkg_begin 7) ⇒ nothing_told ∷ []) (h sharing)
 
 -- a job that is out in Idle: 5 and 6 look at the job and not at the state. A state without a type gives the result kind of type 0
 abbrev pub job_in_idle : From
 job_in_idle =
-    let h : Bool → Held = λ job. held (standing []) (ids 1) idle (progress nine [] [] none none) job in
+    let h : Bool → Held = λ job. held (standing []) (ids 1) idle (progress nine [] [] None None) job in
     from (h true)
-    (starts 0 nine Frost [] none ⇒ refuses 5
+    (starts 0 nine Frost [] None ⇒ refuses 5
     ∷ sends 0 (nonce_request (request (ids_of 1 7 1) five Frost [])) ⇒ refuses 5
     ∷ at 0 (aggregated true) ⇒ saying 0
     ∷ at 0 (aggregated true) ⇒ refuses 6
@@ -595,9 +594,9 @@ at_rest =
 -- a start is taken in DkgEndGather, whatever its type
 abbrev pub started_dkg_end : From
 started_dkg_end =
-    from (held (standing []) (ids_of 3 4 5) (position DkgEndGather []) (progress nine [] [] none none) false)
-    (starts 9 five Schnorr [] none ⇒ nonces_asked (request (ids_of 3 5 6) five Schnorr []) ∷ [])
-    (held (standing []) (ids_of 3 5 6) (position (NonceGather Schnorr) []) (progress five [] [] (some 9) none) false)
+    from (held (standing []) (ids_of 3 4 5) (position DkgEndGather []) (progress nine [] [] None None) false)
+    (starts 9 five Schnorr [] None ⇒ nonces_asked (request (ids_of 3 5 6) five Schnorr []) ∷ [])
+    (held (standing []) (ids_of 3 5 6) (position (NonceGather Schnorr) []) (progress five [] [] (Some 9) None) false)
 
 -- Commissioning, and what a refusal changes
 abbrev refused_rounds : List From
@@ -670,7 +669,7 @@ kept = refused_rounds ++ silent_rounds ++ taken_rounds ++ unreached_rounds
 
 -- The worked round, opened from what `ready` leaves: what demand 3's theorems suppose can be met
 abbrev pub opener : Call
-opener = starts 0 nine Frost [] none
+opener = starts 0 nine Frost [] None
 
 abbrev pub opened9 : Coordinator
 opened9 =
@@ -678,6 +677,6 @@ opened9 =
       standing = standing_of example (0 ∷ 1 ∷ 2 ∷ []) true true [];
       ids = ids 1;
       position = nonces;
-      round = progress nine [] [] (some 0) none;
+      round = progress nine [] [] (Some 0) None;
       job = false;
     }

@@ -1,8 +1,7 @@
 -- The mark beside a job, by 02, c): "whole is yes exactly when every responder's shares are held and no key id occurs twice in the job's
 -- joined list". Rounds with shares missing, and with a responder that has no key, stand in Rounds.antt (`not_whole`) and Jobs.antt
 -- (`one_of_three`, `empty_shares`).
-use Rattle.std.specs.Prelude.{ℕ, Bool, true, false, List, [], ◌∷◌}
-use Rattle.std.proofs.Math.Option.{some}
+use Rattle.std.specs.Prelude.{Some, ℕ, Bool, true, false, List, [], ◌∷◌}
 use Rattle.layout.specs.declared.SignatureType.TheVariants.{Frost}
 use Rattle.step_definition.specs.Configuration.{SignerConfig}
 use Rattle.step_definition.specs.Calls.{aggregated}
@@ -16,7 +15,7 @@ abbrev ended : List SignerConfig → List ℕ → List ℕ → List ℕ → List
 ended signers list0 list1 shared0 shared1 joined whole =
     let r0 = respond 0 list0 good in
     let r1 = respond 1 list1 good in
-    round (begun_of (configuration 4 3 3 (some 10) (some 10) signers true) (0 ∷ 1 ∷ []))
+    round (begun_of (configuration 4 3 3 (Some 10) (Some 10) signers true) (0 ∷ 1 ∷ []))
     (answers 0 r0 ⇒ recorded_of 0
     ∷ answers 0 r1 ⇒ shares_asked 1 (shares9 (r0 ∷ r1 ∷ []))
     ∷ shares 0 0 shared0 ⇒ taken_of 0
@@ -50,7 +49,7 @@ key_of_first_and_last =
     let r1 = respond 1 (2 ∷ []) good in
     let r2 = respond 2 (1 ∷ 3 ∷ []) good in
     round
-    (begun_of (configuration 4 3 3 (some 10) (some 10) (signer 0 (1 ∷ []) ∷ signer 1 (2 ∷ []) ∷ signer 2 (1 ∷ 3 ∷ []) ∷ []) true)
+    (begun_of (configuration 4 3 3 (Some 10) (Some 10) (signer 0 (1 ∷ []) ∷ signer 1 (2 ∷ []) ∷ signer 2 (1 ∷ 3 ∷ []) ∷ []) true)
     (0 ∷ 1 ∷ 2 ∷ []))
     (answers 0 r0 ⇒ recorded_of 0
     ∷ answers 0 r1 ⇒ recorded_of 1

@@ -1,7 +1,6 @@
 -- 01's worked rounds marked P: calls from commissioning on, and what they tell. "Signers 0, 1, 2; keys {1}, {2, 3}, {4}; num_keys 4, both
 -- thresholds 3, both timeouts 10." First the words in which this round and those of the other tables are told.
-use Rattle.std.specs.Prelude.{ℕ, ◌^◌, ◌-◌, Bool, true, false, List, [], ◌∷◌, ◌++◌, map, replicate, drop}
-use Rattle.std.proofs.Math.Option.{Option, some, none}
+use Rattle.std.specs.Prelude.{Option, Some, None, ℕ, ◌^◌, ◌-◌, Bool, true, false, List, [], ◌∷◌, ◌++◌, map, replicate, drop}
 use Rattle.layout.specs.Limits.{store_length, answer_length}
 use Rattle.layout.specs.declared.Ids.{Ids}
 use Rattle.layout.specs.declared.SignatureType.{SignatureType}
@@ -21,7 +20,7 @@ use Rattle.step_definition.specs.Run.{final}
 
 -- Configurations.
 abbrev pub signer : ℕ → List ℕ → SignerConfig
-signer id keys = record { id = id; key_ids = some keys }
+signer id keys = record { id = id; key_ids = Some keys }
 
 -- with num_keys, the threshold that limits exclusion and the one that ends gathering, the nonce and the share timeout, the signers, and
 -- whether packets are verified. What signing doesn't look at, the key generation's threshold and timeouts, has a value of its own
@@ -33,7 +32,7 @@ configuration num_keys threshold sign_threshold nonce sign signers verify =
       threshold = threshold;
       dkg_threshold = 9;
       sign_threshold = sign_threshold;
-      timeouts = record { dkg_public = some 6; dkg_private = some 7; dkg_end = some 8; nonce = nonce; sign = sign };
+      timeouts = record { dkg_public = Some 6; dkg_private = Some 7; dkg_end = Some 8; nonce = nonce; sign = sign };
       signers = signers;
       verify_packet_sigs = verify;
     }
@@ -42,7 +41,7 @@ abbrev pub three : List SignerConfig
 three = signer 0 (1 ∷ []) ∷ signer 1 (2 ∷ 3 ∷ []) ∷ signer 2 (4 ∷ []) ∷ []
 
 abbrev pub example : Config
-example = configuration 4 3 3 (some 10) (some 10) three true
+example = configuration 4 3 3 (Some 10) (Some 10) three true
 
 -- Calls. With a clock reading, the host's verdict, the lengths of store and answer buffer that are lent
 abbrev pub lending : ℕ → Bool → ℕ → ℕ → Request → Call
@@ -167,7 +166,7 @@ ready_of g ended =
     ∷ []
 
 abbrev pub begun_of : Config → List ℕ → List Call
-begun_of g ended = ready_of g ended ++ (starts 0 nine Frost [] none ∷ [])
+begun_of g ended = ready_of g ended ++ (starts 0 nine Frost [] None ∷ [])
 
 abbrev pub ready : List Call
 ready = ready_of example (0 ∷ 1 ∷ 2 ∷ [])
@@ -267,15 +266,15 @@ pub record Left : Type 0 where
   pub malicious : List ℕ
 
 abbrev pub left : Ids → List ℕ → List ℕ → Option Left
-left i message malicious = some (record { ids = i; message = message; malicious = malicious })
+left i message malicious = Some (record { ids = i; message = message; malicious = malicious })
 
 -- message 9 in this iteration, nobody malicious
 abbrev pub left9 : ℕ → Option Left
 left9 iteration = left (ids iteration) nine []
 
 unfoldable pub left_in : Held → Option Left
-left_in uncommissioned = none
-left_in miscounted = none
+left_in uncommissioned = None
+left_in miscounted = None
 left_in (commissioned c) = left c.ids c.round.message c.standing.malicious_signer_ids
 
 -- A round: the calls that open it, the calls that are looked at, each with what it tells, and what is left.

@@ -1,6 +1,5 @@
 -- Runs: what a host sees of one, each answer with the malicious list after it; and who is silent beside it.
-use Rattle.std.specs.Prelude.{ℕ, true, false, List, [], ◌∷◌, ◌++◌}
-use Rattle.std.proofs.Math.Option.{none}
+use Rattle.std.specs.Prelude.{None, ℕ, true, false, List, [], ◌∷◌, ◌++◌}
 use Rattle.layout.specs.Limits.{store_length, answer_length}
 use Rattle.layout.specs.declared.Ids.{Ids}
 use Rattle.layout.specs.declared.SignatureType.TheVariants.{Frost, Schnorr}
@@ -111,14 +110,14 @@ late_heard = watched_run gathered (sends 11 m0 ∷ []) (sees nothing_said [] ∷
 abbrev pub broken_by11 : WatchedRun
 broken_by11 =
     watched_run gathered
-    (starts 0 five Schnorr [] none ∷ shares0 ∷ [])
+    (starts 0 five Schnorr [] None ∷ shares0 ∷ [])
     (sees (numbered error 11 []) [] ∷ sees nothing_said [] ∷ [])
     broken
 
 abbrev pub not_broken_by10 : WatchedRun
 not_broken_by10 =
     watched_run gathered
-    (at 0 (set_key aggregate_key false) ∷ starts 0 five Schnorr [] none ∷ [])
+    (at 0 (set_key aggregate_key false) ∷ starts 0 five Schnorr [] None ∷ [])
     (sees nothing_said [] ∷ sees (numbered error 10 []) [] ∷ [])
     (watching asked9 (0 ∷ 1 ∷ []))
 

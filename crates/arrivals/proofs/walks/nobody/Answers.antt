@@ -3,9 +3,6 @@
 use mathlib.Core.Path.{refl}
 use native.Mathlib.Omega.{arith}
 use Rattle.pieces.specs.Places.{arrivals_of}
-use mathlib.Core.Path.{sym, ◌∙◌}
-use borrow.Author.Rules.{rules}
-use Rattle.std.proofs.lemmas.Grind.{common_steps}
 use Rattle.arrivals.proofs.walks.nobody.Goals as goal
 
 pub returns : goal.returns

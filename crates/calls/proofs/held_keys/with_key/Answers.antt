@@ -1,8 +1,4 @@
-use borrow.Author.Rules.{rules}
 use Rattle.calls.specs.Calls.{keys_with}
-use mathlib.Core.Path.{sym, ◌∙◌}
-use native.Mathlib.Omega.{arith}
-use Rattle.std.proofs.lemmas.Grind.{common_steps}
 use Rattle.calls.proofs.held_keys.with_key.Goals as goal
 
 pub returns-in-Coordinator : goal.returns-in-Coordinator

@@ -6,20 +6,17 @@ use Rattle.state.specs.declared.fields.Coordinator.{Coordinator}
 use Rattle.state.specs.declared.answers.Done.{Done}
 use Rattle.state.specs.Turns.{plain_answer}
 use Rattle.state.proofs.Turns.{refused_did, quiet_did}
-use borrow.Author.Rules.{rules}
-use native.Mathlib.Omega.{arith}
-use Rattle.std.proofs.lemmas.Grind.{common_steps}
 use Rattle.calls.proofs.resets.reset.Goals as goal
 
 abbrev plainly : Coordinator → Done
 plainly t = record { answer = plain_answer; after = t }
 
-pub returns-in-No : goal.returns-in-No
+pub returns-in-Err : goal.returns-in-Err
 unfolding reset_turn
-returns-in-No c = refused_did _ _ _ (sym c.before-passed.ensures ∙ c.in-No.is) c.refused.ensures
+returns-in-Err c = refused_did _ _ _ (sym c.before-passed.ensures ∙ c.in-Err.is) c.refused.ensures
 
-pub returns-in-Yes : goal.returns-in-Yes
+pub returns-in-Ok : goal.returns-in-Ok
 unfolding reset_turn
-returns-in-Yes c =
-    quiet_did _ _ _ _ (sym c.before-passed.ensures ∙ c.in-Yes.is)
-    (c.quiet.ensures ∙ ap plainly (c.forget-u.ensures ∙ ap forgotten c.abandon-t.ensures))
+returns-in-Ok c =
+    quiet_did _ _ _ _ (sym c.before-passed.ensures ∙ c.in-Ok.is)
+    (c.quiet.ensures ∙ ap plainly (c.forget-after.ensures ∙ ap forgotten c.abandon.ensures))

@@ -1,9 +1,8 @@
 -- `flagged_sizes`: the signers from k on are added up.
 -- Assumes nothing.
-use Prim.Native.Nat.{◌≤◌, ◌-◌, ◌+◌, ◌*◌}
+use Prim.Native.Nat.{◌-◌, ◌+◌}
 use mathlib.Core.Path.{◌≡◌}
 use native.Mathlib.Omega.{arith}
-use lib.ListN.{length, take, drop}
 use Rattle.state.proofs.Given.{signers_10}
 use Rattle.signers.proofs.Given.{order_10}
 use Rattle.signers.specs.Order.{ordered}
@@ -11,9 +10,6 @@ use Rattle.state.specs.Slots.{signer_slot}
 use Rattle.state.specs.View.{no_entry}
 use Rattle.key_counts.specs.Sets.{flagged_sizes}
 use Rattle.key_counts.proofs.Walking.{none_left, flagged_next, flagged_over, live_slot, live_entry}
-use mathlib.Core.Path.{sym, ◌∙◌}
-use borrow.Author.Rules.{rules}
-use Rattle.std.proofs.lemmas.Grind.{common_steps}
 use Rattle.key_counts.proofs.counts.flagged_sizes.Goals as goal
 
 pub loop-k-init : goal.loop-k-init
@@ -22,7 +18,6 @@ loop-k-init c =
     let o = c.args.o in (
       signers_10 c.args.g _ c.well_formed.1.0,
       order_10 o _ c.well_formed.0,
-      omega arith,
       omega arith,
       omega arith,
       rw (none_left o.slots o.count),
@@ -35,16 +30,16 @@ bounds-flags-i c =
     let o = c.args.o in
     omega (arith, live_slot c.args.g o.slots o.count (v.k - 1) (signer_slot 0 0) c.requires.same (omega arith) (omega arith))
 
-pub offset_bounds-signers-i : goal.offset_bounds-signers-i
+pub offset_bounds-g-i : goal.offset_bounds-g-i
 unfolding ordered
-offset_bounds-signers-i c =
+offset_bounds-g-i c =
     let v = c.loop-k in
     let o = c.args.o in
     omega (arith, live_slot c.args.g o.slots o.count (v.k - 1) (signer_slot 0 0) c.requires.same (omega arith) (omega arith))
 
-pub bounds-signers-i : goal.bounds-signers-i
+pub bounds-g-i : goal.bounds-g-i
 unfolding ordered
-bounds-signers-i c =
+bounds-g-i c =
     let v = c.loop-k in
     let o = c.args.o in
     omega (arith, live_slot c.args.g o.slots o.count (v.k - 1) (signer_slot 0 0) c.requires.same (omega arith) (omega arith))
@@ -69,9 +64,8 @@ loop-k-preserved-then-flags-i c =
       v.invariant.0,
       v.invariant.1,
       omega arith,
-      omega arith,
       omega (arith, c.set_size-total.ensures.0, c.set_size-total.ensures.1),
-      omega (arith, c.set_size-total.ensures.0, c.set_size-total.ensures.1, step, v.invariant.5),
+      omega (arith, c.set_size-total.ensures.0, c.set_size-total.ensures.1, step, v.invariant.4),
     )
 
 pub loop-k-preserved : goal.loop-k-preserved
@@ -84,9 +78,8 @@ loop-k-preserved c =
       v.invariant.0,
       v.invariant.1,
       omega arith,
-      omega arith,
-      omega (arith, v.invariant.4),
-      omega (arith, v.invariant.4, step, v.invariant.5),
+      omega (arith, v.invariant.3),
+      omega (arith, v.invariant.3, step, v.invariant.4),
     )
 
 pub returns : goal.returns
@@ -94,4 +87,4 @@ unfolding ordered
 returns c =
     let v = c.loop-k in
     let z : v.k ≡ 0 = omega arith in
-    rw z at v.invariant.5
+    rw z at v.invariant.4

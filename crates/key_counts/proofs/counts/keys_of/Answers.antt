@@ -1,10 +1,7 @@
 -- `keys_of`: the signers' sets are the definition's.
 -- Assumes nothing.
-use borrow.Author.Rules.{rules}
 use mathlib.Core.Path.{sym, ◌∙◌}
 use Rattle.key_counts.proofs.Walking.{sizes}
-use native.Mathlib.Omega.{arith}
-use Rattle.std.proofs.lemmas.Grind.{common_steps}
 use Rattle.key_counts.proofs.counts.keys_of.Goals as goal
 
 pub returns : goal.returns

@@ -1,10 +1,6 @@
 -- `received_keys`: the responders' sets are the definition's, at any store.
 -- Assumes nothing.
-use borrow.Author.Rules.{rules}
 use Rattle.key_counts.proofs.Walking.{received}
-use mathlib.Core.Path.{sym, ◌∙◌}
-use native.Mathlib.Omega.{arith}
-use Rattle.std.proofs.lemmas.Grind.{common_steps}
 use Rattle.key_counts.proofs.counts.received_keys.Goals as goal
 
 pub returns : goal.returns

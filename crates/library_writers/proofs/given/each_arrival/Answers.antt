@@ -1,18 +1,11 @@
--- `each_arrival`.
+-- `each_arrival`: each of the ten.
 -- Assumes nothing.
-use Prim.Native.Nat.{◌-◌}
-use mathlib.Core.Path.{refl}
-use native.Mathlib.Omega.{arith}
-use Rattle.library_writers.specs.Given.{arrival_given}
-use Rattle.pieces.proofs.Mapped.{Mapped, none_yet, one_more, all_of_it}
-use mathlib.Core.Path.{sym, ◌∙◌}
 use borrow.Author.Rules.{rules}
-use Rattle.std.proofs.lemmas.Grind.{common_steps}
+use Rattle.library_writers.specs.Given.{arrival_given}
+use Rattle.library_writers.proofs.Each.{each_map}
 use Rattle.library_writers.proofs.given.each_arrival.Goals as goal
 
-pub loop-i-preserved : goal.loop-i-preserved
-unfolding arrival_given
-loop-i-preserved c = one_more _ _ (omega arith) refl c.loop-i.invariant
-
 pub returns : goal.returns
-returns c = all_of_it (omega arith) c.loop-i.invariant
+returns c =
+    each_map arrival_given c.args.given c.map.result 10 c.well_formed.0.1.0.1 c.map.ensures.items.long
+    (λ i d e l. let call = c.map.ensures.items.at i d e l in search rules)

@@ -1,13 +1,9 @@
 -- `write_nonce_response`.
 -- Assumes nothing.
-use borrow.Author.Rules.{rules}
 use Rattle.library_writers.proofs.Plain.{told}
-use mathlib.Core.Path.{sym, ◌∙◌}
-use native.Mathlib.Omega.{arith}
-use Rattle.std.proofs.lemmas.Grind.{common_steps}
 use Rattle.library_writers.proofs.responses_written.write_nonce_response.Goals as goal
 
 pub returns : goal.returns
 returns c =
-    told c.plain_of.ensures
-    (rw c.response_head-head.ensures at c.write_nonce_response-w.ensures)
+    told c.from.ensures
+    (rw c.from-head.ensures at c.write_nonce_response.ensures)

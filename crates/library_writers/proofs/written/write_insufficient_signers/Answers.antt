@@ -1,13 +1,9 @@
 -- `write_insufficient_signers`.
 -- Assumes nothing.
-use borrow.Author.Rules.{rules}
 use Rattle.library_writers.proofs.Plain.{told}
-use mathlib.Core.Path.{sym, ◌∙◌}
-use native.Mathlib.Omega.{arith}
-use Rattle.std.proofs.lemmas.Grind.{common_steps}
 use Rattle.library_writers.proofs.written.write_insufficient_signers.Goals as goal
 
 pub returns : goal.returns
 returns c =
-    told c.plain_of.ensures
-    (rw c.signers-ids.ensures at c.write_insufficient_signers-w.ensures)
+    told c.from-2.ensures
+    (rw c.from.ensures at c.write_insufficient_signers.ensures)

@@ -14,11 +14,11 @@ returns-then-h-ne2 c =
 
 pub gather_nonces-requires : goal.gather_nonces-requires
 gather_nonces-requires c =
-    rw (c.message-message.ensures.0, c.key_ids-key_ids.ensures.0, c.nonces-nonces.ensures.0)
+    rw (c.message.ensures.0, c.key_ids.ensures.0, c.nonces.ensures.0)
     (gathering c.requires c.if-h-ne2.false)
 
 pub returns : goal.returns
 returns c =
-    response-did _ _ _ _ _ _ c.requires.header _ _ _ _ _ c.if-h-ne2.false c.message-message.ensures.0
-    c.key_ids-key_ids.ensures.0 c.nonces-nonces.ensures.0
+    response-did _ _ _ _ _ _ c.requires.header _ _ _ _ _ c.if-h-ne2.false c.message.ensures.0
+    c.key_ids.ensures.0 c.nonces.ensures.0
     c.gather_nonces.ensures

@@ -11,12 +11,12 @@ use Rattle.messages.proofs.states.on_message.Goals as goal
 pub verified-passed-requires : goal.verified-passed-requires
 verified-passed-requires c = config_few _ (within _ c.requires.within)
 
-pub returns-in-No : goal.returns-in-No
-returns-in-No c =
+pub returns-in-Err : goal.returns-in-Err
+returns-in-Err c =
     unverified_did _ _ _ _ _ _ c.requires.header _ c.verified-passed.ensures _
-    c.in-No.is c.refused.ensures
+    c.in-Err.is c.refused.ensures
 
-pub returns-in-Yes : goal.returns-in-Yes
-returns-in-Yes c =
+pub returns-in-Ok : goal.returns-in-Ok
+returns-in-Ok c =
     verified_did _ _ _ _ _ _ c.requires.header _ c.verified-passed.ensures _ _
-    c.in-Yes.is c.by_phase.ensures
+    c.in-Ok.is c.by_phase.ensures

@@ -3,7 +3,6 @@
 use borrow.Author.Rules.{rules}
 use borrow.Author.Tests.{not-true, not-false}
 use mathlib.Core.Path.{sym, ◌∙◌}
-use Rattle.records.proofs.Asking.{answer_none, answer_some}
 use Rattle.messages.specs.Verified.{sender_known}
 use native.Mathlib.Omega.{arith}
 use Rattle.std.proofs.lemmas.Grind.{common_steps}
@@ -13,20 +12,20 @@ pub returns-then-not-is_signer_kind : goal.returns-then-not-is_signer_kind
 unfolding sender_known
 returns-then-not-is_signer_kind c = rw (← c.is_signer_kind.ensures, c.if-not-is_signer_kind.true)
 
-pub returns-in-At : goal.returns-in-At
+pub returns-in-Some : goal.returns-in-Some
 unfolding sender_known
-returns-in-At c =
+returns-in-Some c =
     rw (
       ← c.is_signer_kind.ensures,
       c.if-not-is_signer_kind.false,
-      answer_some _ _ (sym c.slot_of-found.ensures ∙ c.in-At.is),
+      (sym c.slot_of-found.ensures ∙ c.in-Some.is),
     )
 
-pub returns-in-Nowhere : goal.returns-in-Nowhere
+pub returns-in-None : goal.returns-in-None
 unfolding sender_known
-returns-in-Nowhere c =
+returns-in-None c =
     rw (
       ← c.is_signer_kind.ensures,
       c.if-not-is_signer_kind.false,
-      answer_none _ (sym c.slot_of-found.ensures ∙ c.in-Nowhere.is),
+      (sym c.slot_of-found.ensures ∙ c.in-None.is),
     )

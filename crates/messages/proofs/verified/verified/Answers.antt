@@ -8,23 +8,23 @@ use native.Mathlib.Omega.{arith}
 use Rattle.std.proofs.lemmas.Grind.{common_steps}
 use Rattle.messages.proofs.verified.verified.Goals as goal
 
-pub returns-then-not-config : goal.returns-then-not-config
-returns-then-not-config c = the_not_asked _ _ _ (not-true _ c.if-not-config.true)
+pub returns-then-not-s : goal.returns-then-not-s
+returns-then-not-s c = the_not_asked _ _ _ (not-true _ c.if-not-s.true)
 
-pub returns-then-not-keys : goal.returns-then-not-keys
-returns-then-not-keys c = asked_13 _ _ _ (not-false _ c.if-not-config.false) (not-true _ c.if-not-keys.true)
+pub returns-then-not-s-2 : goal.returns-then-not-s-2
+returns-then-not-s-2 c = asked_13 _ _ _ (not-false _ c.if-not-s.false) (not-true _ c.if-not-s-2.true)
 
 pub returns-then-not-is_sender_known : goal.returns-then-not-is_sender_known
 returns-then-not-is_sender_known c =
-    asked_14 _ _ _ (not-false _ c.if-not-config.false) (not-false _ c.if-not-keys.false) _
+    asked_14 _ _ _ (not-false _ c.if-not-s.false) (not-false _ c.if-not-s-2.false) _
     c.is_sender_known.ensures (c.if-not-is_sender_known.true)
 
 pub returns-then-not-verdict : goal.returns-then-not-verdict
 returns-then-not-verdict c =
-    seal_14 _ _ _ (not-false _ c.if-not-config.false) (not-false _ c.if-not-keys.false) _
+    seal_14 _ _ _ (not-false _ c.if-not-s.false) (not-false _ c.if-not-s-2.false) _
     c.is_sender_known.ensures (c.if-not-is_sender_known.false) (c.if-not-verdict.true)
 
 pub returns : goal.returns
 returns c =
-    all_asked _ _ _ (not-false _ c.if-not-config.false) (not-false _ c.if-not-keys.false) _
+    all_asked _ _ _ (not-false _ c.if-not-s.false) (not-false _ c.if-not-s-2.false) _
     c.is_sender_known.ensures (c.if-not-is_sender_known.false) (c.if-not-verdict.false)

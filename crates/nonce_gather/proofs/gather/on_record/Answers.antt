@@ -11,15 +11,12 @@ use mathlib.Core.Path.{sym, ◌∙◌}
 use Rattle.std.proofs.lemmas.Grind.{common_steps}
 use Rattle.nonce_gather.proofs.gather.on_record.Goals as goal
 
-pub place-r-requires : goal.place-r-requires
-place-r-requires c = records_few _ (within _ c.requires.within)
-
-pub offset_bounds-held-r : goal.offset_bounds-held-r
-offset_bounds-held-r c =
+pub offset_bounds-s-r : goal.offset_bounds-s-r
+offset_bounds-s-r c =
     omega (arith, c.place-r.ensures, c.requires.known, records_few _ (within _ c.requires.within))
 
-pub bounds-held-r : goal.bounds-held-r
-bounds-held-r c =
+pub bounds-s-r : goal.bounds-s-r
+bounds-s-r c =
     omega (arith, c.place-r.ensures, c.requires.known, records_few _ (within _ c.requires.within))
 
 pub received_keys-received-requires : goal.received_keys-received-requires
@@ -31,10 +28,10 @@ returns-then-received-config c =
     too_few_did _ _ _ _ _ _ _ c.place-r.ensures _ (c.received_keys-received.ensures _ _)
     c.if-received-config.true c.quiet.ensures
 
-pub returns-then-not-keys : goal.returns-then-not-keys
-returns-then-not-keys c =
+pub returns-then-not-s : goal.returns-then-not-s
+returns-then-not-s c =
     no-key-did _ _ _ _ _ _ _ c.place-r.ensures _ (c.received_keys-received.ensures _ _)
-    c.if-received-config.false _ (not-true _ c.if-not-keys.true) c.replaced-t.ensures
+    c.if-received-config.false _ c.if-not-s.true c.replaced.ensures
     c.refused.ensures
 
 pub request_sig_shares-requires : goal.request_sig_shares-requires
@@ -44,4 +41,4 @@ request_sig_shares-requires c =
 pub returns : goal.returns
 returns c =
     asked-did _ _ _ _ _ _ _ c.place-r.ensures _ (c.received_keys-received.ensures _ _)
-    c.if-received-config.false _ (not-false _ c.if-not-keys.false) c.request_sig_shares.ensures
+    c.if-received-config.false _ c.if-not-s.false c.request_sig_shares.ensures

@@ -9,16 +9,16 @@ use native.Mathlib.Omega.{arith}
 use Rattle.std.proofs.lemmas.Grind.{common_steps}
 use Rattle.nonce_gather.proofs.gather.put_on_record.Goals as goal
 
-pub add-added-requires : goal.add-added-requires
-add-added-requires c =
+pub add-records-requires : goal.add-records-requires
+add-records-requires c =
     placed c.requires.0 c.args.clock _ _ _ _ (shape _ _ c.well_formed.0) c.requires.1
 
 pub on_record-requires : goal.on_record-requires
 on_record-requires c =
-    rw (c.add-added.ensures.value, c.add-added.ensures.store_after)
+    rw (c.add-records.ensures.value, c.add-records.ensures.store_after)
     (recorded c.requires.0 c.args.clock _ _ _ _ (shape _ _ c.well_formed.0) c.requires.1)
 
 pub returns : goal.returns
 unfolding recorded_turn
 returns c =
-    rw (← c.add-added.ensures.value, ← c.add-added.ensures.store_after) c.on_record.ensures
+    rw (← c.add-records.ensures.value, ← c.add-records.ensures.store_after) c.on_record.ensures

@@ -7,4 +7,4 @@ use Rattle.std.proofs.lemmas.Grind.{common_steps}
 use Rattle.nonce_gather.proofs.gather.replaced.Goals as goal
 
 pub returns : goal.returns
-returns c = rw c.with_message-current.ensures
+returns c = rw c.with_message.ensures

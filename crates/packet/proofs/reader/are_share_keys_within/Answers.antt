@@ -1,19 +1,16 @@
 -- The loop's invariant: the total and the key ids that are left make up all. The loop ends above 16, so the total fits.
 -- Assumes nothing.
-use Prim.Native.Nat.{ℕ, ◌+◌, ◌*◌, ◌-◌, ◌<◌, ◌≤◌}
+use Prim.Native.Nat.{ℕ, ◌+◌, ◌*◌, ◌<◌, ◌≤◌}
 use mathlib.Core.Path.{◌≡◌, sym}
-use mathlib.Core.List.{List, map}
+use mathlib.Core.List.{List}
 use native.Mathlib.Nat.{sub-zero, zero-add}
 use native.Mathlib.Omega.{arith}
-use borrow.Author.Rules.{rules}
 use borrow.Author.Tests.{le-leb, lt-leb}
 use lib.ListN.{length}
-use Rattle.layout.specs.LaidOut.{part_at, parts_from}
+use Rattle.layout.specs.LaidOut.{part_at}
 use Rattle.layout.specs.Decode.{share_in, key_count}
 use Rattle.packet.proofs.Laws.{parts_step, parts_end, share_keys-le}
 use Rattle.packet.proofs.reader.are_share_keys_within.Invariants.{keys}
-use mathlib.Core.Path.{◌∙◌}
-use Rattle.std.proofs.lemmas.Grind.{common_steps}
 use Rattle.packet.proofs.reader.are_share_keys_within.Goals as goal
 
 -- the first of them, then those after it

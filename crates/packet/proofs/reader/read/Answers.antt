@@ -1,12 +1,8 @@
 -- Question 8, then 9; the header of a message that is taken is the packet's.
 -- Assumes nothing.
-use borrow.Author.Rules.{rules}
-use mathlib.Core.Path.{sym, ◌∙◌, ap}
 use Rattle.layout.specs.Decode.{decode}
 use Rattle.layout.proofs.Headed.{header-message_in}
-use Rattle.packet.specs.declared.reader.Reading.TheVariants.{Packet}
 use Rattle.packet.specs.Reading.{reading}
-use Rattle.frame.proofs.Flags.{says_no, says_yes}
 use native.Mathlib.Omega.{arith}
 use Rattle.std.proofs.lemmas.Grind.{common_steps}
 use Rattle.packet.proofs.reader.read.Goals as goal

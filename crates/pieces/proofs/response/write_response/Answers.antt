@@ -1,13 +1,10 @@
 -- `write_response`: header and pairs, then three parts.
 -- Assumes nothing.
-use borrow.Author.Rules.{rules}
 use mathlib.Core.Path.{refl, ◌∙◌}
 use mathlib.Core.List.{[], ◌∷◌}
 use native.Mathlib.Omega.{arith}
 use Rattle.framing.specs.Writing.{total}
 use Rattle.framing.proofs.Laws.{lent_short, lent_whole, put-parts, put-framed, length-parts}
-use mathlib.Core.Path.{sym}
-use Rattle.std.proofs.lemmas.Grind.{common_steps}
 use Rattle.pieces.proofs.response.write_response.Goals as goal
 
 pub returns-then-out-end : goal.returns-then-out-end

@@ -11,16 +11,16 @@ use Rattle.std.proofs.lemmas.Grind.{common_steps}
 use Rattle.process.proofs.packets.receive.Goals as goal
 
 pub read-requires : goal.read-requires
-read-requires c = ready _ _ _ (sym c.before-passed.ensures ∙ c.in-Yes.is)
+read-requires c = ready _ _ _ (sym c.before-passed.ensures ∙ c.in-Ok.is)
 
-pub returns-in-No : goal.returns-in-No
+pub returns-in-Err : goal.returns-in-Err
 unfolding receive_turn
-returns-in-No c =
-    before_did _ _ _ (sym c.before-passed.ensures ∙ c.in-No.is)
+returns-in-Err c =
+    before_did _ _ _ (sym c.before-passed.ensures ∙ c.in-Err.is)
     c.refused.ensures
 
-pub returns-in-Yes : goal.returns-in-Yes
+pub returns-in-Ok : goal.returns-in-Ok
 unfolding receive_turn
-returns-in-Yes c =
-    passed_did _ _ (sym c.before-passed.ensures ∙ c.in-Yes.is)
+returns-in-Ok c =
+    passed_did _ _ (sym c.before-passed.ensures ∙ c.in-Ok.is)
     c.read.ensures

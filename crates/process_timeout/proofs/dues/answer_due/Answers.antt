@@ -1,10 +1,6 @@
 -- `answer_due`: by the timeout that is due.
 -- Assumes nothing.
-use borrow.Author.Rules.{rules}
 use Rattle.process_timeout.proofs.Answering.{ready, nothing_did, nonces_did, shares_did}
-use mathlib.Core.Path.{sym, ◌∙◌}
-use native.Mathlib.Omega.{arith}
-use Rattle.std.proofs.lemmas.Grind.{common_steps}
 use Rattle.process_timeout.proofs.dues.answer_due.Goals as goal
 
 pub nonce_timeout-requires : goal.nonce_timeout-requires

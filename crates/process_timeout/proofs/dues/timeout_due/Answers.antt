@@ -1,10 +1,6 @@
 -- `timeout_due`: each clock with its timeout.
 -- Assumes nothing.
-use borrow.Author.Rules.{rules}
 use Rattle.process_timeout.specs.Due.{due_of}
-use mathlib.Core.Path.{sym, ◌∙◌}
-use native.Mathlib.Omega.{arith}
-use Rattle.std.proofs.lemmas.Grind.{common_steps}
 use Rattle.process_timeout.proofs.dues.timeout_due.Goals as goal
 
 pub returns : goal.returns

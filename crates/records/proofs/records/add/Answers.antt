@@ -1,10 +1,7 @@
 -- `add`: the record opened, two writes, the slot set.
 -- Assumes nothing.
-use borrow.Author.Rules.{rules}
 use native.Mathlib.Omega.{arith}
 use Rattle.records.proofs.Adding.{add_done}
-use mathlib.Core.Path.{sym, ◌∙◌}
-use Rattle.std.proofs.lemmas.Grind.{common_steps}
 use Rattle.records.proofs.records.add.Goals as goal
 
 pub returns : goal.returns

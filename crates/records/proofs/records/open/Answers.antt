@@ -1,12 +1,8 @@
 -- `open`: open already, or a message written and an empty record.
 -- Assumes nothing.
-use borrow.Author.Rules.{rules}
 use mathlib.Core.Path.{refl}
-use native.Mathlib.Omega.{arith}
 use borrow.Author.Tests.{lt-ltb, le-ltb}
 use Rattle.records.specs.Records.{opened, opened_store}
-use mathlib.Core.Path.{sym, ◌∙◌}
-use Rattle.std.proofs.lemmas.Grind.{common_steps}
 use Rattle.records.proofs.records.open.Goals as goal
 
 pub returns-then-r-records : goal.returns-then-r-records

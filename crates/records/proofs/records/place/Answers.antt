@@ -1,39 +1,43 @@
 -- `place`: the search that is left gives the place.
 -- Assumes nothing.
-use Prim.Native.Nat.{◌-◌, ◌≤◌}
-use mathlib.Core.Path.{◌≡◌, refl}
+use mathlib.Core.Path.{◌≡◌, refl, ap, ◌∙◌}
+use mathlib.Core.List.{List}
 use native.Mathlib.Omega.{arith}
-use lib.ListN.{length, take, drop}
-use Rattle.state.proofs.Given.{rows_4}
+use lib.ListN.{length}
+use Rattle.state.specs.declared.fields.SignRoundInfo.{SignRoundInfo}
+use Rattle.state.specs.View.{no_row}
 use Rattle.records.specs.Records.{record_from, record_place}
 use Rattle.records.proofs.Adding.{place_next, place_end}
-use mathlib.Core.Path.{sym, ◌∙◌}
-use borrow.Author.Rules.{rules}
-use Rattle.std.proofs.lemmas.Grind.{common_steps}
 use Rattle.records.proofs.records.place.Goals as goal
 
 pub loop-r-init : goal.loop-r-init
-loop-r-init c = (rows_4 c.args.records _ c.well_formed.0, omega arith, omega arith, refl)
+loop-r-init c = refl
+
+pub is_of-requires : goal.is_of-requires
+is_of-requires c = omega (arith, c.live-rows.ensures.1)
 
 pub returns-then-is_of : goal.returns-then-is_of
 unfolding record_place
 returns-then-is_of c =
+    let a = c.args in
     let v = c.loop-r in
     let q = c.is_of in
-    rw c.if-is_of.true at
-    (place_next _ _ _ _ v.r _ q.result c.loop-r-test.true (omega arith) q.ensures v.invariant.3)
+    let found = place_next a.message.now a.store.now c.live-rows.result.now v.r no_row q.result c.loop-r-test.true q.ensures v.invariant in
+    rw c.if-is_of.true at found ∙ ap (λ (rows : List SignRoundInfo). record_from a.message.now a.store.now 0 rows) c.live-rows.ensures.0
 
 pub loop-r-preserved : goal.loop-r-preserved
 loop-r-preserved c =
+    let a = c.args in
     let v = c.loop-r in
-    let q = c.is_of in (
-      v.invariant.0,
-      v.invariant.1,
-      omega arith,
-      rw c.if-is_of.false at
-          (place_next _ _ _ _ v.r _ q.result c.loop-r-test.true (omega arith) q.ensures v.invariant.3),
-    )
+    let q = c.is_of in
+    let on = place_next a.message.now a.store.now c.live-rows.result.now v.r no_row q.result c.loop-r-test.true q.ensures v.invariant in
+    rw c.if-is_of.false at on
 
 pub returns : goal.returns
 unfolding record_place
-returns c = place_end _ _ _ _ c.loop-r.r c.loop-r-test.false c.loop-r.invariant.3
+returns c =
+    let a = c.args in
+    let rows = c.live-rows.result.now in
+    let all : c.loop-r.r ≡ length rows = omega arith in
+    rw all at (place_end a.message.now a.store.now rows c.loop-r.r (omega arith) c.loop-r.invariant)
+    ∙ ap (λ (rs : List SignRoundInfo). record_from a.message.now a.store.now 0 rs) c.live-rows.ensures.0

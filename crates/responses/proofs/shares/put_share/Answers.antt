@@ -1,13 +1,10 @@
 -- `put_share`: the id, z_i and the key ids, each where the last ends.
 -- Assumes nothing.
-use borrow.Author.Rules.{rules}
 use Prim.Native.Nat.{◌+◌}
 use native.Mathlib.Omega.{arith}
 use Rattle.wire.proofs.Buffer.{put_next}
 use Rattle.layout.specs.Encode.{share_bytes}
 use Rattle.framing.proofs.Laws.{put-field}
-use mathlib.Core.Path.{sym, ◌∙◌}
-use Rattle.std.proofs.lemmas.Grind.{common_steps}
 use Rattle.responses.proofs.shares.put_share.Goals as goal
 
 pub returns : goal.returns

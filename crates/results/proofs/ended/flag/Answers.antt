@@ -2,24 +2,23 @@
 -- Assumes nothing.
 use mathlib.Core.Path.{sym, ◌∙◌}
 use native.Mathlib.Omega.{arith}
-use Rattle.records.proofs.Asking.{slot_low, answer_none, answer_some}
+use Rattle.state.specs.View.{ids_of}
+use Rattle.state.proofs.Given.{signers_10}
+use Rattle.state.proofs.SignerSlots.{slot_is}
 use Rattle.results.specs.Results.{flag_at}
-use borrow.Author.Rules.{rules}
-use Rattle.std.proofs.lemmas.Grind.{common_steps}
+use Rattle.results.proofs.Walks.{ids_few}
 use Rattle.results.proofs.ended.flag.Goals as goal
 
-pub slot_of-found-requires : goal.slot_of-found-requires
-slot_of-found-requires c = c.requires
+pub bounds-m-i : goal.bounds-m-i
+bounds-m-i c =
+    let a = c.args in
+    let found = (sym c.slot_of.ensures ∙ c.in-Some.is) in
+    omega (arith, (slot_is a.id 0 (ids_of a.g) c.in-Some.i found).1, ids_few a.g, signers_10 a.g _ c.well_formed.1.0)
 
-pub bounds-t-i : goal.bounds-t-i
-bounds-t-i c =
-    let low = slot_low c.args.g c.args.id c.in-At.i (answer_some _ _ (sym c.slot_of-found.ensures ∙ c.in-At.is)) in
-    omega (arith, c.requires)
-
-pub returns-in-At : goal.returns-in-At
+pub returns-in-Some : goal.returns-in-Some
 unfolding flag_at
-returns-in-At c = rw (answer_some _ _ (sym c.slot_of-found.ensures ∙ c.in-At.is))
+returns-in-Some c = rw (sym c.slot_of.ensures ∙ c.in-Some.is)
 
-pub returns-in-Nowhere : goal.returns-in-Nowhere
+pub returns-in_default : goal.returns-in_default
 unfolding flag_at
-returns-in-Nowhere c = rw (answer_none _ (sym c.slot_of-found.ensures ∙ c.in-Nowhere.is))
+returns-in_default c = rw (sym c.slot_of.ensures ∙ c.in_default.is)

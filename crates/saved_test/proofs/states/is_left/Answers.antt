@@ -1,25 +1,24 @@
--- `is_left`: the test of each field, from the last to the first.
+-- `is_left`: each part's test.
 -- Assumes nothing.
-use borrow.Author.Rules.{rules}
+use mathlib.Core.Path.{refl, ◌∙◌}
 use Rattle.state_bytes.specs.Description.{description}
-use Rattle.saved_test.proofs.Testing.{and_on, and_last}
-use mathlib.Core.Path.{sym, ◌∙◌}
-use native.Mathlib.Omega.{arith}
-use Rattle.std.proofs.lemmas.Grind.{common_steps}
+use Rattle.saved_test.proofs.Testing.{twelve, and_same}
 use Rattle.saved_test.proofs.states.is_left.Goals as goal
 
 pub returns : goal.returns
 unfolding description
 returns c =
-    and_on _ _ c.both.ensures c.stands.ensures
-    (and_on _ _ c.both-from_version.ensures c.is_version.ensures
-    (and_on _ _ c.both-from_commissioned.ensures c.is_flag-2.ensures
-    (and_on _ _ c.both-from_config.ensures c.is_config.ensures
-    (and_on _ _ c.both-from_position.ensures c.is_position.ensures
-    (and_on _ _ c.both-from_records.ensures c.are_records.ensures
-    (and_on _ _ c.both-from_shares.ensures c.are_shares.ensures
-    (and_on _ _ c.both-from_marks.ensures c.are_marks.ensures
-    (and_on _ _ c.both-from_clocks.ensures c.are_clocks.ensures
-    (and_on _ _ c.both-from_keys.ensures c.are_keys.ensures
-    (and_on _ _ c.both-from_job.ensures c.is_flag.ensures
-    (and_last _ c.stands-from_zeros.ensures)))))))))))
+    twelve c.stands.result c.is_version.result c.is_flag.result c.is_config.result c.is_position.result c.are_records.result
+    c.are_left.result c.are_marks.result c.are_clocks.result c.are_keys.result c.is_flag-2.result c.stands-2.result
+    ∙ and_same c.stands.ensures
+    (and_same c.is_version.ensures
+    (and_same c.is_flag.ensures
+    (and_same c.is_config.ensures
+    (and_same c.is_position.ensures
+    (and_same c.are_records.ensures
+    (and_same c.are_left.ensures
+    (and_same c.are_marks.ensures
+    (and_same c.are_clocks.ensures
+    (and_same c.are_keys.ensures
+    (and_same c.is_flag-2.ensures
+    (and_same c.stands-2.ensures refl)))))))))))

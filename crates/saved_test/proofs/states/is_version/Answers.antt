@@ -1,10 +1,6 @@
--- `is_version`: the version's eight bytes.
+-- The version, written to eight bytes.
 -- Assumes nothing.
-use borrow.Author.Rules.{rules}
 use Rattle.wire.specs.Bytes.{le, put}
-use mathlib.Core.Path.{sym, ◌∙◌}
-use native.Mathlib.Omega.{arith}
-use Rattle.std.proofs.lemmas.Grind.{common_steps}
 use Rattle.saved_test.proofs.states.is_version.Goals as goal
 
 pub returns : goal.returns

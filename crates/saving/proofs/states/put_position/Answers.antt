@@ -2,25 +2,21 @@
 -- Assumes nothing.
 use mathlib.Core.Path.{refl, ap, ◌∙◌}
 use native.Mathlib.Omega.{arith}
-use borrow.Author.Rules.{rules}
-use Rattle.wire.specs.Bytes.{joined}
 use Rattle.form.specs.Form.{pieces}
 use Rattle.state_bytes.specs.Description.{saved_type, state_parts, state_form, position_form}
 use Rattle.state_table.proofs.Table.{state_below}
 use Rattle.form.proofs.Writing.{then, last, written, one_byte}
-use mathlib.Core.Path.{sym}
-use Rattle.std.proofs.lemmas.Grind.{common_steps}
 use Rattle.saving.proofs.states.put_position.Goals as goal
 
-pub returns : goal.returns
-unfolding joined pieces position_form state_form state_parts
-returns c =
-    let state = c.state_number-n in
-    let k = c.type_byte-k in
+pub returns-clause-written : goal.returns-clause-written
+unfolding pieces position_form state_form state_parts
+returns-clause-written c =
+    let state = c.state_number-number in
+    let k = c.type_byte-type_number in
     written
     (then refl (omega arith)
-    (one_byte _ _ state.result _ (omega (arith, state.ensures, state_below c.args.p.state))
+    (one_byte _ _ state.result _ (omega (arith, state.ensures, state_below c.args.p.now.state))
     state.ensures c.put_number.ensures)
     (then refl (omega arith)
-    (one_byte _ _ k.result _ (omega arith) (k.ensures ∙ ap saved_type c.type_in-t.ensures)
+    (one_byte _ _ k.result _ (omega arith) (k.ensures ∙ ap saved_type c.type_in.ensures)
     c.put_number-2.ensures) (last c.copy.ensures)))

@@ -12,9 +12,9 @@ use Rattle.std.proofs.lemmas.Grind.{common_steps}
 use Rattle.saving_fields.proofs.fields.put_clocks.Goals as goal
 
 pub returns : goal.returns
-unfolding joined pieces clocks_form reading_form reading_parts
+unfolding pieces clocks_form reading_form reading_parts
 returns c =
-    let clocks = c.args.c in
+    let clocks = c.args.c.now in
     written
     (then (reading-long clocks.nonce_start) (omega arith) c.put_reading.ensures
     (last c.put_reading-2.ensures))

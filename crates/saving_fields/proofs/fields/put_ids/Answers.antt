@@ -12,7 +12,7 @@ use Rattle.std.proofs.lemmas.Grind.{common_steps}
 use Rattle.saving_fields.proofs.fields.put_ids.Goals as goal
 
 pub returns : goal.returns
-unfolding joined pieces ids_form
+unfolding pieces ids_form
 returns c =
     written
     (then (length-le 8 _) (omega arith) c.put_number.ensures

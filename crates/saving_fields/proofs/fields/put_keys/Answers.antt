@@ -12,7 +12,7 @@ use Rattle.std.proofs.lemmas.Grind.{common_steps}
 use Rattle.saving_fields.proofs.fields.put_keys.Goals as goal
 
 pub returns : goal.returns
-unfolding joined pieces keys_form
+unfolding pieces keys_form
 returns c =
     written
     (then refl (omega arith) c.put_flag.ensures (last c.put_flag-2.ensures))

@@ -1,28 +1,26 @@
 -- `put_reading`: whether there is a reading, then its eight bytes.
 -- Assumes nothing.
-use mathlib.Core.Path.{refl}
+use Prim.Native.Nat.{ℕ}
+use mathlib.Core.Path.{◌≡◌, refl, sym, ap, ◌∙◌}
+use mathlib.Core.List.{List, [], ◌∷◌}
 use native.Mathlib.Omega.{arith}
-use borrow.Author.Rules.{rules}
-use Rattle.wire.specs.Bytes.{le, joined}
-use Rattle.form.specs.Form.{pieces}
+use Rattle.std.specs.Option.{is_some, unwrap_or}
+use Rattle.std.specs.Prelude.{None, Some}
+use Rattle.state.specs.Clock.{Reading}
+use Rattle.wire.specs.Bytes.{le, put, joined}
+use Rattle.form.specs.Form.{pieces, bit}
 use Rattle.state_bytes.specs.Description.{reading_form, reading_parts}
 use Rattle.form.proofs.Writing.{then, last, written}
-use mathlib.Core.Path.{sym, ◌∙◌}
-use Rattle.std.proofs.lemmas.Grind.{common_steps}
 use Rattle.saving_fields.proofs.fields.put_reading.Goals as goal
 
-pub returns-in-Never : goal.returns-in-Never
-unfolding joined le pieces reading_form reading_parts
-returns-in-Never c =
-    rw c.in-Never.is
-    (written
-    (then refl (omega arith) c.put_number.ensures
-    (last c.put_number-in-Never.ensures)))
+saved_reading : (r : Reading) → joined ((bit (is_some r) ∷ []) ∷ le 8 (unwrap_or r 0) ∷ []) ≡ reading_form.save r
+unfolding pieces reading_form reading_parts
+saved_reading None = refl
+saved_reading (Some n) = refl
 
-pub returns-in-At : goal.returns-in-At
-unfolding joined le pieces reading_form reading_parts
-returns-in-At c =
-    rw c.in-At.is
-    (written
-    (then refl (omega arith) c.put_number-in-At.ensures
-    (last c.put_number-in-At-2.ensures)))
+pub returns : goal.returns
+unfolding pieces
+returns c =
+    let bytes = rw (c.unwrap_or.ensures) at c.put_number.ensures in
+    let flag = rw (c.is_some.ensures) at c.put_flag.ensures in
+    written (then refl (omega arith) flag (last bytes)) ∙ ap (put c.args.out.now c.args.at) (saved_reading c.args.r)

@@ -14,7 +14,7 @@ use Rattle.std.proofs.lemmas.Grind.{common_steps}
 use Rattle.saving_fields.proofs.fields.put_slot.Goals as goal
 
 pub returns : goal.returns
-unfolding joined pieces slot_form ids_form
+unfolding pieces slot_form ids_form
 returns c =
     written
     (then refl (omega arith) c.put_flag.ensures

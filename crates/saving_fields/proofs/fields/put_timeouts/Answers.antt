@@ -12,9 +12,9 @@ use Rattle.std.proofs.lemmas.Grind.{common_steps}
 use Rattle.saving_fields.proofs.fields.put_timeouts.Goals as goal
 
 pub returns : goal.returns
-unfolding joined pieces timeouts_form reading_form reading_parts
+unfolding pieces timeouts_form reading_form reading_parts
 returns c =
-    let timeouts = c.args.t in
+    let timeouts = c.args.t.now in
     written
     (then (reading-long timeouts.dkg_public) (omega arith) c.put_reading.ensures
     (then (reading-long timeouts.dkg_private) (omega arith) c.put_reading-2.ensures

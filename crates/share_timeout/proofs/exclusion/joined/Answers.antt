@@ -1,34 +1,30 @@
--- `joined`: the flags from the front, and what is left to join.
+-- `joined`: the flags of the first i places are joined.
 -- Assumes nothing.
-use Prim.Native.Nat.{◌≤◌, ◌-◌}
-use mathlib.Core.Path.{◌≡◌, refl, ◌∙◌}
-use mathlib.Core.List.{◌++◌}
+use mathlib.Core.Path.{◌≡◌, ◌∙◌}
+use native.Mathlib.Numerals.{add-one}
 use native.Mathlib.Omega.{arith}
-use lib.ListN.{length, take, drop, length-set}
-use Rattle.share_timeout.specs.Exclusion.{joined_flags}
-use Rattle.share_timeout.proofs.Flags.{join_next, join_done}
-use mathlib.Core.Path.{sym}
 use borrow.Author.Rules.{rules}
-use Rattle.std.proofs.lemmas.Grind.{common_steps}
+use lib.ListN.{length}
+use lib.Seq.{take_all}
+use Rattle.share_timeout.proofs.Flags.{join_none, join_set, join_left}
 use Rattle.share_timeout.proofs.exclusion.joined.Goals as goal
+use Rattle.share_timeout.proofs.exclusion.joined.Goals.{then-other, else-other}
 
 pub loop-i-init : goal.loop-i-init
-loop-i-init c = (omega arith, omega arith, omega arith, omega arith, refl)
+loop-i-init c = join_none c.args.a
 
 pub loop-i-preserved : goal.loop-i-preserved
 loop-i-preserved c =
     let v = c.loop-i in
-    let a = c.args in (
-      v.invariant.0,
-      v.invariant.1,
-      length-set v.flags v.i c.is_either.result ∙ v.invariant.2,
-      omega arith,
-      join_next a.a a.b v.flags v.i c.is_either.result (omega arith) (omega arith) (omega arith)
-          c.is_either.ensures v.invariant.4,
-    )
+    let a = c.args.a in
+    let b = c.args.b in
+    let x : length a ≡ 10 = search rules in
+    let y : length b ≡ 10 = search rules in
+    let h = c.loop-i-test.true in
+    elim c.if-other.branch [
+      | then-other w ↦ rw (w.flags-is, v.invariant, add-one) (join_set a b v.i (omega arith) (omega arith) w.if-other.true)
+      | else-other w ↦ rw (w.flags-is, v.invariant, add-one) (join_left a b v.i (omega arith) (omega arith) w.if-other.false)
+    ]
 
 pub returns : goal.returns
-returns c =
-    let v = c.loop-i in
-    let a = c.args in
-    join_done a.a a.b v.flags v.i (omega arith) (omega arith) (omega arith) v.invariant.4
+returns c = let v = c.loop-i in v.invariant ∙ rw (take_all v.i c.args.b (omega arith))

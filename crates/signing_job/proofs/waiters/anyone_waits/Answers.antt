@@ -9,12 +9,6 @@ use native.Mathlib.Omega.{arith}
 use Rattle.std.proofs.lemmas.Grind.{common_steps}
 use Rattle.signing_job.proofs.waiters.anyone_waits.Goals as goal
 
-pub ascending-o-requires : goal.ascending-o-requires
-ascending-o-requires c = c.requires
-
-pub flagged_ids-waiters-requires : goal.flagged_ids-waiters-requires
-flagged_ids-waiters-requires c = c.ascending-o.ensures.1
-
 pub is_any-requires : goal.is_any-requires
 is_any-requires c = c.flagged_ids-waiters.ensures.1
 

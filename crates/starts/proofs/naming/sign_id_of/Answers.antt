@@ -8,10 +8,10 @@ use native.Mathlib.Omega.{arith}
 use Rattle.std.proofs.lemmas.Grind.{common_steps}
 use Rattle.starts.proofs.naming.sign_id_of.Goals as goal
 
-pub returns-in-Next : goal.returns-in-Next
+pub returns-in-None : goal.returns-in-None
 unfolding sign_id_of next
-returns-in-Next c = rw c.in-Next.is c.wrapping_add_u64.ensures.value
+returns-in-None c = rw c.in-None.is c.wrapping_add_u64.ensures.value
 
-pub returns-in-Given : goal.returns-in-Given
+pub returns-in-Some : goal.returns-in-Some
 unfolding sign_id_of
-returns-in-Given c = rw c.in-Given.is
+returns-in-Some c = rw c.in-Some.is

@@ -13,23 +13,23 @@ pub begin-requires : goal.begin-requires
 begin-requires c =
     let a = c.args in
     let asked = answered_all asking_start (length a.store.now) (length a.out.now) a.s
-    (sym c.before-passed.ensures ∙ c.in-Yes.is) in
+    (sym c.before-passed.ensures ∙ c.in-Ok.is) in
     (c.if-message-gt-MESSAGE_LIMIT.false, leb-true _ _ asked.roomy)
 
-pub returns-in-No : goal.returns-in-No
+pub returns-in-Err : goal.returns-in-Err
 unfolding start_turn
-returns-in-No c =
-    refused_did _ _ _ (sym c.before-passed.ensures ∙ c.in-No.is)
+returns-in-Err c =
+    refused_did _ _ _ (sym c.before-passed.ensures ∙ c.in-Err.is)
     c.refused.ensures
 
 pub returns-then-message-gt-MESSAGE_LIMIT : goal.returns-then-message-gt-MESSAGE_LIMIT
 unfolding start_turn unless
 returns-then-message-gt-MESSAGE_LIMIT c =
-    rw (← c.before-passed.ensures, c.in-Yes.is, lt-leb _ _ c.if-message-gt-MESSAGE_LIMIT.true)
+    rw (← c.before-passed.ensures, c.in-Ok.is, lt-leb _ _ c.if-message-gt-MESSAGE_LIMIT.true)
     (error_did _ _ c.refused-then-message-gt-MESSAGE_LIMIT.ensures)
 
 pub returns-else-message-gt-MESSAGE_LIMIT : goal.returns-else-message-gt-MESSAGE_LIMIT
 unfolding start_turn unless
 returns-else-message-gt-MESSAGE_LIMIT c =
-    rw (← c.before-passed.ensures, c.in-Yes.is, le-leb _ _ c.if-message-gt-MESSAGE_LIMIT.false)
+    rw (← c.before-passed.ensures, c.in-Ok.is, le-leb _ _ c.if-message-gt-MESSAGE_LIMIT.false)
     (c.begin.ensures c.args.store.now)

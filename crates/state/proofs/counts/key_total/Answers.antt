@@ -1,27 +1,19 @@
 -- `key_total`: the counts still to come complete the sum.
 -- Assumes nothing.
-use Prim.Native.Nat.{◌≤◌, ◌-◌, ◌+◌, ◌*◌}
-use mathlib.Core.Path.{◌≡◌}
-use mathlib.Core.List.{map, []}
-use native.Mathlib.Omega.{arith}
-use lib.ListN.{length, take, drop}
-use Rattle.state.proofs.Walks.{sum-turn, sum_done}
-use Rattle.pieces.proofs.Given.{live_at}
-use Rattle.state.specs.Counts.{sum, key_count, entry_within, entries}
-use Rattle.state.proofs.Given.{signers_10}
-use native.Mathlib.Nat.{zero-add}
-use Prim.Native.Nat.{ℕ}
+use Prim.Native.Nat.{ℕ, ◌≤◌}
+use mathlib.Core.Path.{◌≡◌, ap, ◌∙◌}
 use mathlib.Core.Bool.{Bool, true, false, cond}
-use Rattle.state.specs.declared.fields.SignerEntry.{SignerEntry}
+use mathlib.Core.List.{List, map}
+use native.Mathlib.Omega.{arith}
+use native.Mathlib.Nat.{zero-add}
 use lib.Dec.{leb}
 use borrow.Author.Tests.{leb-true}
-use mathlib.Core.Path.{sym, ◌∙◌}
-use borrow.Author.Rules.{rules}
-use Rattle.std.proofs.lemmas.Grind.{common_steps}
+use Rattle.wire.proofs.Lists.{the_every_at}
+use Rattle.state.specs.declared.fields.SignerEntry.{SignerEntry}
+use Rattle.state.specs.Counts.{sum, key_count, entry_within}
+use Rattle.state.specs.View.{no_entry}
+use Rattle.state.proofs.Walks.{sum_more, sum_whole}
 use Rattle.state.proofs.counts.key_total.Goals as goal
-
-abbrev zero_entry : SignerEntry
-zero_entry = record { id = record { 0 = 0 }; has_keys = false; keys = record { ids = []; count = 0 } }
 
 small : (e : SignerEntry) → entry_within e ≡ true → key_count e ≤ 16
 unfolding entry_within key_count
@@ -31,43 +23,28 @@ small e h = by_flag e.has_keys e.keys.count h
     by_flag true n h = leb-true n 16 h
     by_flag false n h = omega arith
 
-pub loop-i-init : goal.loop-i-init
-loop-i-init c = (signers_10 c.args.g _ c.well_formed.0, omega arith, omega arith, zero-add _)
+pub loop-e-init : goal.loop-e-init
+loop-e-init c = (omega arith, zero-add _)
 
 pub overflow_add-total : goal.overflow_add-total
-unfolding entries
 overflow_add-total c =
-    let v = c.loop-i in
-    let g = c.args.g in
-    omega (
-      arith,
-      c.key_count-total.ensures,
-      small _
-          (live_at entry_within g.signers g.count v.i zero_entry c.loop-i-test.true
-          (omega arith) c.requires.1),
-    )
+    let v = c.loop-e in
+    let within = rw (← c.entries-e-items.ensures.0) at c.requires in
+    let few = small _ (the_every_at entry_within c.entries-e-items.result.now v.e-index no_entry within c.loop-e-test.true) in
+    omega (arith, c.key_count-total.ensures, few)
 
-pub loop-i-preserved : goal.loop-i-preserved
-unfolding entries
-loop-i-preserved c =
-    let v = c.loop-i in
-    let g = c.args.g in (
-      v.invariant.0,
-      omega arith,
-      omega (
-        arith,
-        c.key_count-total.ensures,
-        small _
-            (live_at entry_within g.signers g.count v.i zero_entry c.loop-i-test.true (omega arith)
-            c.requires.1),
-      ),
-      sum-turn key_count g.signers g.count v.i zero_entry v.total c.key_count-total.result
-          c.loop-i-test.true (omega arith) c.key_count-total.ensures v.invariant.3,
+pub loop-e-preserved : goal.loop-e-preserved
+loop-e-preserved c =
+    let v = c.loop-e in
+    let within = rw (← c.entries-e-items.ensures.0) at c.requires in
+    let few = small _ (the_every_at entry_within c.entries-e-items.result.now v.e-index no_entry within c.loop-e-test.true) in (
+      omega (arith, c.key_count-total.ensures, few),
+      sum_more key_count c.entries-e-items.result.now v.e-index no_entry v.total c.key_count-total.result c.loop-e-test.true
+          c.key_count-total.ensures v.invariant.1,
     )
 
 pub returns : goal.returns
-unfolding entries
 returns c =
-    let g = c.args.g in
-    sum_done key_count g.signers g.count c.loop-i.i c.loop-i.total c.loop-i-test.false
-    c.loop-i.invariant.3
+    let items = c.entries-e-items.result.now in
+    sum_whole key_count items c.loop-e.e-index c.loop-e.total c.loop-e-test.false c.loop-e.invariant.1
+    ∙ ap (λ (es : List SignerEntry). sum (map key_count es)) c.entries-e-items.ensures.0

@@ -1,54 +1,44 @@
--- `count_repeats`: those found so far and those still to come; the last bytes of the keys before i are noted.
+-- Those found so far and those still to come; the last bytes of the keys before i are noted.
 -- Assumes nothing.
-use Prim.Native.Nat.{◌+◌, ◌-◌, ◌≤◌}
-use mathlib.Core.Path.{◌≡◌, refl, ap, ◌∙◌}
-use mathlib.Core.Bool.{Bool, true, false, cond, false≢true}
-use native.Mathlib.Nat.{zero-add}
+use Prim.Native.Nat.{ℕ, ◌+◌, ◌≤◌}
+use mathlib.Core.Path.{◌≡◌, sym, ap, ◌∙◌}
+use mathlib.Core.Bool.{Bool, true, false, cond}
+use mathlib.Core.List.{[], map}
 use native.Mathlib.Omega.{arith}
-use lib.ListN.{length, drop, length-set}
-use Rattle.validity.specs.Keys.{key_at, keys_before, member, repeats, repeats_after}
-use Rattle.validity.specs.Notes.{Noted}
-use Rattle.validity.proofs.Places.{keys, keys_16, keys_end, keys-listed}
-use Rattle.validity.proofs.Repeats.{not_noted, noted_last, before_next, repeats-next}
-use mathlib.Core.Path.{sym}
+use lib.ListN.{take, drop, get_or, length-map, length-set, drop_of_length-le}
+use Rattle.validity.specs.Keys.{key_number, key_of, member, repeats_after}
+use Rattle.validity.proofs.Repeats.{new, counted, noted_next}
 use Rattle.validity.proofs.keys.count_repeats.Goals as goal
+use Rattle.validity.proofs.keys.count_repeats.Goals.{then-is_repeat, else-is_repeat}
 
-few : (b : Bool) → cond b 1 0 ≤ 1
-few true = omega arith
-few false = omega arith
-
-pub loop-i-init : goal.loop-i-init
-unfolding member
-loop-i-init c =
-    (keys_16 c.args.list _ c.well_formed.0, refl, omega arith, omega arith, zero-add _, λ x m. absurd (false≢true m))
+pub is_repeat-requires : goal.is_repeat-requires
+is_repeat-requires c =
+    let v = c.loop-i in
+    λ n. new c.args.list.now v.i c.loop-i-test.true v.seen v.invariant.3 (ap (λ (k : ℕ). get_or v.seen k false) (sym c.last_byte-last.ensures) ∙ n)
 
 pub loop-i-preserved : goal.loop-i-preserved
 loop-i-preserved c =
-    let list = c.args.list in
+    let list = c.args.list.now in
     let v = c.loop-i in
-    let n = c.live-count.result in
-    let sixteen : n ≤ length list.ids = omega (arith, c.live-count.ensures, v.invariant) in
-    let key = key_at list v.i in
-    let here : c.one_if-found.result ≡ cond (member key (keys_before list v.i)) 1 0 =
-    c.one_if-found.ensures ∙ ap (λ (b : Bool). cond b 1 0) c.is_repeat.ensures in
-    let next = repeats-next list n v.i (omega arith) sixteen in
-    let last = c.last_byte-last.ensures in (
-      v.invariant.0,
-      length-set v.seen _ true ∙ v.invariant.1,
-      omega arith,
-      omega (arith, c.one_if-found.ensures, few c.is_repeat.result),
-      omega (arith, here, next, v.invariant.4),
-      rw (before_next list n v.i (omega arith) sixteen)
-          (noted_last v.seen (keys_before list v.i) key _ last (omega (arith, last)) v.invariant.5),
+    let here : Bool = member (key_number (get_or list v.i (key_of 0))) (map key_number (take v.i list)) in
+    let one : c.if-is_repeat.found ≡ v.found + cond here 1 0 =
+    elim c.if-is_repeat.branch [
+      | then-is_repeat w ↦ (let e : here ≡ true = sym c.is_repeat.ensures ∙ w.if-is_repeat.true in rw e w.found-is)
+      | else-is_repeat w ↦ (let e : here ≡ false = sym c.is_repeat.ensures ∙ w.if-is_repeat.false in rw e (w.found-is ∙ omega arith))
+    ] in
+    let few : c.if-is_repeat.found ≤ v.i + 1 =
+    elim c.if-is_repeat.branch [ then-is_repeat w ↦ omega arith | else-is_repeat w ↦ omega arith ] in (
+      length-set v.seen _ true ∙ v.invariant.0,
+      few,
+      rw one (counted list v.i c.loop-i-test.true v.found v.invariant.2),
+      noted_next list v.i c.loop-i-test.true v.seen _ v.invariant.0 c.last_byte-last.ensures v.invariant.3,
     )
 
 pub returns : goal.returns
 unfolding repeats_after
 returns c =
-    let list = c.args.list in
     let v = c.loop-i in
-    let n = c.live-count in
-    let over : repeats_after (keys_before list v.i) (drop v.i (keys n.result list.ids)) ≡ 0 =
-    rw (keys_end list.ids n.result v.i c.loop-i-test.false) in
-    let all : v.found ≡ repeats (keys n.result list.ids) = omega (arith, over, v.invariant.4) in
-    all ∙ ap repeats (keys-listed list n.result v.invariant.0 n.ensures)
+    let xs = map key_number c.args.list.now in
+    let none : drop v.i xs ≡ [] = drop_of_length-le xs {i = v.i} (rw length-map (omega arith)) in
+    let over : repeats_after (take v.i xs) (drop v.i xs) ≡ 0 = rw none in
+    omega (arith, over, v.invariant.2)

@@ -1,20 +1,15 @@
 -- `key_list`: the first i places hold the first i ids of the part, the others 0.
 -- Assumes nothing.
-use Prim.Native.Nat.{min, ◌/◌, ◌-◌, ◌≤◌}
 use mathlib.Core.Path.{◌≡◌, refl, ◌∙◌}
 use native.Mathlib.Omega.{arith}
-use borrow.Author.Rules.{rules}
-use lib.ListN.{length, take, length-set}
-use Rattle.layout.specs.Limits.{list_limit}
-use Rattle.layout.specs.Decode.{ids_in}
+use lib.ListN.{length-set}
 use Rattle.validity.specs.Keys.{key_places, key_list}
 use Rattle.validity.proofs.Places.{place_read, keys-whole}
-use mathlib.Core.Path.{sym}
 use Rattle.validity.proofs.keys.key_list.Goals as goal
 
 pub loop-i-init : goal.loop-i-init
 unfolding key_places
-loop-i-init c = (refl, c.live-count.ensures, omega arith, refl)
+loop-i-init c = (refl, c.min-count.ensures, omega arith, refl)
 
 pub loop-i-preserved : goal.loop-i-preserved
 loop-i-preserved c = let v = c.loop-i in (
@@ -28,7 +23,7 @@ pub returns : goal.returns
 unfolding key_list
 returns c =
     let v = c.loop-i in
-    let n = c.live-count.result in
+    let n = c.min-count.result in
     let e : v.i ≡ n = omega arith in
     let ids = rw (e, keys-whole c.args.s.now n v.invariant.1) at v.invariant.3 in
     rw (ids, v.invariant.1)
