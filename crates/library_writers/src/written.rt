@@ -126,9 +126,9 @@ pub fn write_nonce_timeout(
     ensures { WrotePlain (write_nonce_timeout (length out.old) (signers_given waiters) (signers_given malicious))
         out.old result out.new }
 {
-    let waiting = SignerIds::from(waiters);
-    let struck = SignerIds::from(malicious);
-    RcWritten::from(results::write_nonce_timeout(out, waiting, struck))
+    let waiters = SignerIds::from(waiters);
+    let malicious = SignerIds::from(malicious);
+    RcWritten::from(results::write_nonce_timeout(out, waiters, malicious))
 }
 
 pub fn write_insufficient_signers(out: &mut [u8], malicious: RcSignerIds) -> RcWritten

@@ -6,5 +6,5 @@ use Rattle.library_writers.proofs.written.write_nonce_timeout.Goals as goal
 pub returns : goal.returns
 returns c =
     told c.from.ensures
-    (rw (c.from-waiting.ensures, c.from-struck.ensures) at
+    (rw (c.from-waiters.ensures, c.from-malicious.ensures) at
     c.write_nonce_timeout.ensures)
