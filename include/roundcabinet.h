@@ -123,10 +123,10 @@ uint32_t rc_version(void) RC_ANSWERS;
 
 /* Stack: how much is enough for each call, in bytes, whatever path it takes (retry, job and refusals included). It is counted from where the caller's frame
  * ends: arguments that lie on the stack are in it, the caller's own frames and signal handlers are not. The deepest is known over all paths, from the
- * archive's instructions (hosts/c/depth.py: 108272, 33392, 49472 and 8816 bytes), and at least a quarter of that was added. hosts/c/stack.c makes each call on
+ * archive's instructions (hosts/c/depth.py: 98272, 33376, 49472 and 8816 bytes), and at least a quarter of that was added. hosts/c/stack.c makes each call on
  * a stack of exactly this size. A frame of more than a page touches each page from the top down: on a stack that is too small and has a guard page below it
  * the call dies there, and writes to nobody's memory. A thread of 64 KiB is too small for rc_process, and would die only once a well-formed packet comes. */
-#define RC_STACK_PROCESS (134 * 1024)   /* rc_process, rc_process_message */
+#define RC_STACK_PROCESS (126 * 1024)   /* rc_process, rc_process_message */
 #define RC_STACK_COMMISSION (42 * 1024) /* rc_commission */
 #define RC_STACK_CALL (66 * 1024)       /* every other call that is lent a state */
 #define RC_STACK_PACKET (12 * 1024)     /* rc_read_packet, rc_packet_part, rc_version and the writers: what is lent no state */

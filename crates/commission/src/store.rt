@@ -5,5 +5,8 @@ ghost use Rattle.std.specs.Prelude.{◌≡◌, length, replicate};
 pub fn zero(store: &mut [u8])
     ensures { store.new ≡ replicate (length store.old) 0 }
 {
-    store.fill(0);
+    // by the byte, and not by `fill`: an edit says of a single byte that it is not zeroed
+    for i in 0..store.len() {
+        store[i] = 0;
+    }
 }

@@ -4,5 +4,6 @@ pub mod Walks
 pub mod Given
 pub mod Sets
 pub mod Placing
+pub mod Turning
 pub mod Asked
 pub mod Viewed

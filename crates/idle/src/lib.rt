@@ -51,7 +51,8 @@ fn nonce_request(s: Coordinator, out: &mut [u8], clock: u64, packet: &[u8], h: H
     rounds::begin(t, out, clock, parts::message(packet), by)
 }
 
-// h: the packet's header.
+// h: the packet's header. Compiled by itself, so that its frame is not in those that gather.
+#[inline(never)]
 pub fn idle(s: Coordinator, out: &mut [u8], clock: u64, packet: &[u8], h: Header) -> Done
     requires { Heard packet.now h (length out.old) }
     ensures { (store : List ℕ)

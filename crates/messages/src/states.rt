@@ -12,6 +12,8 @@ use state::answers;
 use state::answers::Done;
 use state::fields::Coordinator;
 
+// Compiled by themselves, each way of hearing has a frame of its own, and a call takes the stack of one alone.
+#[inline(never)]
 fn in_nonce_gather(
     s: Coordinator,
     store: &mut [u8],
@@ -42,6 +44,7 @@ fn in_nonce_gather(
     )
 }
 
+#[inline(never)]
 fn in_share_gather(
     s: Coordinator,
     store: &mut [u8],

@@ -1,5 +1,5 @@
 // The lists of a response as a signer holds them: numbers as numbers.
-ghost use Rattle.std.specs.Prelude.{◌≡◌, ◌^◌, ◌≤◌, ◌<◌, length, MatchResult};
+ghost use Rattle.std.specs.Prelude.{◌≡◌, ◌≤◌, ◌<◌, length, MatchResult};
 ghost use Rattle.wire.specs.Bytes.{put};
 ghost use Rattle.layout.specs.Encode.{header_of, id_bytes};
 
@@ -31,15 +31,14 @@ pub fn room(out: &[u8], end: usize) -> Result<(), u8>
     if out.len() < end { Err(26) } else { Ok(()) }
 }
 
-// A list of ids from `at` on, four bytes each. The two writers of this crate call it, and no host.
-pub(crate) fn put_ids(out: &mut [u8], at: usize, ids: &[u32])
-    requires { at < 2 ^ 32 }
+// A list of ids from `at` on, four bytes each.
+pub fn put_ids(out: &mut [u8], at: u32, ids: &[u32])
     ensures { out.new ≡ put out.old at (id_bytes ids.now) }
 {
     for (i, id) in ids.iter().enumerate() {
         wire::put_number(
             out,
-            at + layout::ID_LENGTH * i,
+            at as usize + layout::ID_LENGTH * i,
             layout::ID_LENGTH,
             *id as u64,
         );

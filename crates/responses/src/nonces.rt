@@ -47,7 +47,7 @@ pub fn write_nonce_response(
         nonces.len(),
     );
     wire::copy(out, RESPONSE_FRAME_LENGTH, message);
-    lists::put_ids(out, keys_at, key_ids);
+    lists::put_ids(out, keys_at as u32, key_ids);
     wire::copy(out, nonces_at, nonces);
     Ok(end)
 }

@@ -52,7 +52,7 @@ fn put_share(out: &mut [u8], at: usize, id: u32, z_i: &[u8], key_ids: &[u32])
 {
     wire::put_number(out, at, ID_LENGTH, id as u64);
     wire::copy(out, at + ID_LENGTH, z_i);
-    lists::put_ids(out, at + SHARE_LENGTH, key_ids);
+    lists::put_ids(out, (at + SHARE_LENGTH) as u32, key_ids);
 }
 
 // The shares, one after the other from `at`.

@@ -15,7 +15,8 @@ pub fn either(rt: &impl Print, b: bool, yes: &str, no: &str) {
 
 // A name and a number.
 pub fn field(rt: &impl Print, name: &str, n: u64) {
-    let _ = print!(rt; "{name}{n}");
+    text(rt, name);
+    let _ = print!(rt; "{n}");
 }
 
 // A sum over bytes that tells their order: h * 31 + byte, by 2 ^ 32.

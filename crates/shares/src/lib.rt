@@ -21,9 +21,13 @@ fn join(list: KeyIds, more: KeyIds) -> KeyIds
     requires { list.count + more.count ≤ list_limit }
     ensures { (listed result ≡ listed list ++ listed more) × (result.count ≡ list.count + more.count) }
 {
-    let count = list.count + more.count;
     let mut ids = list.ids;
-    ids[list.count..count].copy_from_slice(&more.ids[..more.count]);
+    let mut count = list.count;
+    // by the key: `copy_from_slice` would want memmove of the C library
+    for i in 0..more.count {
+        ids[count] = more.ids[i];
+        count += 1;
+    }
     KeyIds { ids, count }
 }
 

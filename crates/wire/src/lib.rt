@@ -2,7 +2,7 @@
 // place: what lies past the end reads as 0 and is not written.
 #![tactic(auto)]
 
-ghost use Rattle.std.specs.Prelude.{◌≡◌, get_or, take, drop, replicate};
+ghost use Rattle.std.specs.Prelude.{◌≡◌, get_or, length, take, drop, replicate};
 ghost use Rattle.wire.specs.Bytes.{le, number, number_at, put, are_same_bytes};
 
 // How many bytes a u64 has.
@@ -89,6 +89,16 @@ pub fn put_number(out: &mut [u8], at: usize, n: usize, x: u64)
     copy(out, at, part(&x.to_le_bytes(), 0, n));
 }
 
+// Bytes over as many others. By the byte, which is compiled to memcpy: `copy_from_slice` would want memmove of the C library.
+fn overwrite(to: &mut [u8], from: &[u8])
+    requires { length to.old ≡ length from.now }
+    ensures { to.new ≡ from.now }
+{
+    for i in 0..to.len() {
+        to[i] = from[i];
+    }
+}
+
 // Writes the bytes of src at `at`, as many of them as there is room for. Where all fit, their number is src's own: one that a caller gives
 // as a constant is written by one store.
 #[tactic(auto, using(crate::proofs::Buffer::put_out))]
@@ -98,9 +108,9 @@ pub fn copy(out: &mut [u8], at: usize, src: &[u8])
     if at < out.len() {
         let room = out.len() - at;
         if src.len() <= room {
-            out[at..at + src.len()].copy_from_slice(src);
+            overwrite(&mut out[at..at + src.len()], src);
         } else {
-            out[at..].copy_from_slice(&src[..room]);
+            overwrite(&mut out[at..], &src[..room]);
         }
     }
 }

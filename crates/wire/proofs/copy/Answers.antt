@@ -10,9 +10,9 @@ pub returns-then-src-room : goal.returns-then-src-room
 returns-then-src-room c =
     let a = c.args in
     put_room a.out.now a.at _ a.src.now _ (omega arith) (omega arith)
-    (c.copy_from_slice.ensures.after ∙ sym (take_all _ a.src.now (omega arith)))
+    (c.overwrite.ensures ∙ sym (take_all _ a.src.now (omega arith)))
 
 pub returns-else-src-room : goal.returns-else-src-room
 returns-else-src-room c =
     let a = c.args in
-    put_room a.out.now a.at _ a.src.now _ (omega arith) (omega arith) c.copy_from_slice-else-src-room.ensures.after
+    put_room a.out.now a.at _ a.src.now _ (omega arith) (omega arith) c.overwrite-else-src-room.ensures

@@ -48,10 +48,6 @@ put_response_frame-requires c =
     let fit = nonces_fit _ _ _ few in
     (omega arith, omega arith, omega arith)
 
-pub put_ids-requires : goal.put_ids-requires
-put_ids-requires c =
-    omega (arith, nonces_passed _ c.args.key_ids.now c.args.nonces.now (sym c.are_nonces_within.ensures ∙ c.in_ok-limits.ensures))
-
 pub returns : goal.returns
 unfolding write_nonce_response
 returns c =
