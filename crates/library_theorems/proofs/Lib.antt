@@ -11,3 +11,4 @@ pub mod Contracts
 pub mod Makes
 pub mod Zeros
 pub mod Numbers
+pub mod Kept
