@@ -123,7 +123,7 @@ uint32_t rc_version(void) RC_ANSWERS;
 
 /* Stack: how much is enough for each call, in bytes, whatever path it takes (retry, job and refusals included). It is counted from where the caller's frame
  * ends: arguments that lie on the stack are in it, the caller's own frames and signal handlers are not. The deepest is known over all paths, from the
- * archive's instructions (hosts/c/depth.py: 98272, 33376, 49472 and 8816 bytes), and at least a quarter of that was added. hosts/c/stack.c makes each call on
+ * archive's instructions (hosts/c/depth.py: 97936, 33360, 49456 and 8800 bytes), and at least a quarter of that was added. hosts/c/stack.c makes each call on
  * a stack of exactly this size. A frame of more than a page touches each page from the top down: on a stack that is too small and has a guard page below it
  * the call dies there, and writes to nobody's memory. A thread of 64 KiB is too small for rc_process, and would die only once a well-formed packet comes. */
 #define RC_STACK_PROCESS (126 * 1024)   /* rc_process, rc_process_message */

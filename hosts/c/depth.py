@@ -40,7 +40,8 @@ def functions(archive):
             name = begin[1]
             found[name] = []
         elif moved := re.match(r"\s+[0-9a-f]+: (R_X86_64_\w+)\s+(.+?)(?:[-+]0x[0-9a-f]+)?$", line):
-            found[name][-1][3] = moved[2].removeprefix(".text.")  # a function of this file may be named by its section
+            # a function of this file may be named by its section, which says more of one that is marked cold
+            found[name][-1][3] = moved[2].removeprefix(".text.").removeprefix("unlikely.")
         elif code := re.match(r"\s+([0-9a-f]+):\s+(\S+)\s*(.*)$", line):
             found[name].append([int(code[1], 16), code[2], code[3], None])
     return found

@@ -38,6 +38,8 @@ pub fn header(kind: u8, pairs: u16, ids: Ids) -> Header
     }
 }
 
+// Compiled into each writer: one that has asked for room knows the length, and its seven numbers are written without a test.
+#[inline(always)]
 pub fn put_header(out: &mut [u8], h: Header)
     ensures { out.new ≡ put out.old 0 (header_bytes h) }
 {

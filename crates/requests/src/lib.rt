@@ -20,7 +20,9 @@ use pieces::response;
 // The bytes of the header and of the pairs of message and root.
 const FRAME_LENGTH: usize = 48;
 
-// The header and the first two pairs of kinds 1 and 3, for `count` nested responses. Gives the place after the root.
+// The header and the first two pairs of kinds 1 and 3, for `count` nested responses. Gives the place after the root. Compiled into both
+// writers, as `put_header` is.
+#[inline(always)]
 fn put_request_frame(out: &mut [u8], kind: u8, count: u16, head: &RequestHead, len: usize) -> Cursor
     requires { (count ≤ signer_limit) × (len ≤ message_limit) }
     ensures { (result.pair ≡ 48) × (result.at ≡ 48 + 8 * count + len + length (root_of head.now))

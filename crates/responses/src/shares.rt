@@ -44,14 +44,16 @@ fn put_share_pairs(out: &mut [u8], first: Cursor, key_counts: &[u32])
     }
 }
 
-// A share: its id, its z_i, its key ids.
+// A share: its id, its z_i, its key ids. The z_i goes through an array, whose length the compiler knows: two loads and two stores.
 fn put_share(out: &mut [u8], at: usize, id: u32, z_i: &[u8], key_ids: &[u32])
     requires { (at ≤ 1048576) × (length z_i.now ≡ 32) }
     ensures { out.new ≡ put out.old at
         (share_bytes (share_of id z_i.now key_ids.now)) }
 {
+    let mut z = [0; SCALAR_LENGTH];
+    z.copy_from_slice(z_i);
     wire::put_number(out, at, ID_LENGTH, id as u64);
-    wire::copy(out, at + ID_LENGTH, z_i);
+    wire::copy(out, at + ID_LENGTH, &z);
     lists::put_ids(out, (at + SHARE_LENGTH) as u32, key_ids);
 }
 

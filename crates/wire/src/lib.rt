@@ -2,7 +2,7 @@
 // place: what lies past the end reads as 0 and is not written.
 #![tactic(auto)]
 
-ghost use Rattle.std.specs.Prelude.{◌≡◌, get_or, length, take, drop, replicate};
+ghost use Rattle.std.specs.Prelude.{◌≡◌, ◌+◌, ◌≤◌, get_or, length, take, drop, replicate};
 ghost use Rattle.wire.specs.Bytes.{le, number, number_at, put, are_same_bytes};
 
 // How many bytes a u64 has.
@@ -22,14 +22,18 @@ fn rest(s: &[u8], at: usize) -> &[u8]
     &s[at.min(s.len())..]
 }
 
-// The first N bytes, zeros in the place of those past the end.
+// The N bytes from `at`, zeros in the place of those past the end. A packet in order never comes here: compiled by itself, so that the
+// readers stay small enough to be compiled into their callers.
+#[cold]
+#[inline(never)]
 #[tactic(auto, using(crate::proofs::Std::number_padded))]
-fn padded<const N: usize>(s: &[u8]) -> [u8; N]
-    ensures { number result ≡ number_at N 0 s.now }
+fn padded<const N: usize>(s: &[u8], at: usize) -> [u8; N]
+    ensures { number result ≡ number_at N at s.now }
 {
+    let there = rest(s, at);
     let mut bytes = [0; N];
     for (i, place) in bytes.iter_mut().enumerate() {
-        *place = byte(s, i);
+        *place = byte(there, i);
     }
     bytes
 }
@@ -38,11 +42,12 @@ fn padded<const N: usize>(s: &[u8]) -> [u8; N]
 fn bytes_at<const N: usize>(s: &[u8], at: usize) -> [u8; N]
     ensures { number result ≡ number_at N at s.now }
 {
-    let there = rest(s, at);
-    match there.split_first_chunk::<N>() {
-        Some((whole, _)) => *whole,
-        None => padded(there),
+    if at <= s.len()
+        && let Some(whole) = s[at..].first_chunk::<N>()
+    {
+        return *whole;
     }
+    padded(s, at)
 }
 
 // The numbers of two, four and eight bytes at `at`.
@@ -99,19 +104,29 @@ fn overwrite(to: &mut [u8], from: &[u8])
     }
 }
 
-// Writes the bytes of src at `at`, as many of them as there is room for. Where all fit, their number is src's own: one that a caller gives
-// as a constant is written by one store.
+// The bytes of src that there is room for, which are not all. No packet that is written comes here: compiled by itself, as `padded` is.
+#[cold]
+#[inline(never)]
 #[tactic(auto, using(crate::proofs::Buffer::put_out))]
-pub fn copy(out: &mut [u8], at: usize, src: &[u8])
+fn copy_partly(out: &mut [u8], at: usize, src: &[u8])
+    requires { length out.old ≤ at + length src.now }
     ensures { out.new ≡ put out.old at src.now }
 {
     if at < out.len() {
         let room = out.len() - at;
-        if src.len() <= room {
-            overwrite(&mut out[at..at + src.len()], src);
-        } else {
-            overwrite(&mut out[at..], &src[..room]);
-        }
+        overwrite(&mut out[at..], &src[..room]);
+    }
+}
+
+// Writes the bytes of src at `at`, as many of them as there is room for. Where all fit, their number is src's own: one that a caller gives
+// as a constant is written by one store.
+pub fn copy(out: &mut [u8], at: usize, src: &[u8])
+    ensures { out.new ≡ put out.old at src.now }
+{
+    if src.len() <= out.len() && at <= out.len() - src.len() {
+        overwrite(&mut out[at..at + src.len()], src);
+    } else {
+        copy_partly(out, at, src);
     }
 }
 

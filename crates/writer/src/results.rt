@@ -70,7 +70,9 @@ fn put_column(out: &mut [u8], at: usize, column: Column, list: &Arrivals)
     }
 }
 
-// The header of a result: nothing but its kind and its pairs. Gives the place of the first pair and of its part.
+// The header of a result: nothing but its kind and its pairs. Gives the place of the first pair and of its part. Compiled into each writer,
+// as `put_header` is.
+#[inline(always)]
 fn put_result_header(out: &mut [u8], kind: u8, pairs: u16) -> Cursor
     requires { pairs ≤ 2 }
     ensures { (result.pair ≡ 32) × (result.at ≡ 32 + 8 * pairs)

@@ -2,7 +2,7 @@
 -- Assumes nothing.
 use mathlib.Core.Path.{refl, sym, ◌∙◌}
 use native.Mathlib.Omega.{arith}
-use lib.ListN.{length, get_or, length-set}
+use lib.ListN.{get_or, length-set}
 use lib.Seq.{take_all}
 use Rattle.std.proofs.lemmas.List.{take_more, take_more_set}
 use Rattle.wire.proofs.overwrite.Goals as goal

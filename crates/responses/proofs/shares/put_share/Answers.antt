@@ -14,6 +14,7 @@ returns c =
     rw (
       c.put_ids.ensures,
       c.copy.ensures,
+      c.copy_from_slice.ensures.after,
       c.put_number.ensures,
       put_next _ (at + 4) c.args.z_i.now (at + 36) _ (omega (arith, c.requires.1)),
     )
